@@ -1,7 +1,8 @@
 // Where and why a text is turned away.
 ghost use mathlib.Core.Path.{_≡_};
 ghost use Prim.Native.Nat.{_+_, _^_, _<_};
-ghost use Rattle.csv.specs.Faults.{text-diagnostic, faulty-field};
+ghost use Rattle.csv.specs.Faults.{text-diagnostic, faulty-field, layer-name};
+ghost use Rattle.std.specs.declared.option.Option.the-variants.{Some};
 use std::fmt;
 
 // A place in a text: lines and columns count from 1, bytes from 0.
@@ -39,6 +40,8 @@ pub enum Layer {
 }
 
 pub impl fmt::Display for Layer as LayerDisplay {
+    ghost shown = { λ l. Some (layer-name l) };
+
     fn fmt<W: fmt::Write>(&self, f: &mut fmt::Formatter<W>) -> fmt::Result {
         match self {
             Layer::Text => write!(f, "text"),

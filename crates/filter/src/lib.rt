@@ -14,6 +14,11 @@ use std::alloc::AllocError;
 use std::alloc::Global;
 use std::fmt;
 
+mod entries;
+
+pub use entries::Entry;
+pub use entries::EntryDisplay;
+
 // The longest input, in bytes.
 pub const LIMIT: usize = 65_536;
 

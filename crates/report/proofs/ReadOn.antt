@@ -51,12 +51,13 @@ ended : (width lines bytes : ℕ) (xs : List ℕ) → None ≡ next width lines 
 ended width lines bytes [] e = refl
 ended width lines bytes (b ∷ bs) e = let z : _≡_ {A = ℕ} 0 1 = cc in absurd (omega arith)
 
-module _ {text : List ℕ} {width : Width} {all : List (Result Report LineFault)} {r : Reader} (s : Sofar text width all r) where
-  pub falls : (o : Result Report LineFault) (t : Reader) → Some (told o) ≡ next (r .width .count) (r .lines) (r .place) (unread r) → Behind r t → length (unread t) < length (unread r)
-  falls o t e b =
-      let one = step (r .width .count) (r .lines) (r .place) (unread r) (told o) e .shorter in
-      omega (arith, ap length (b .unread))
+-- a reader that told something has less to tell
+pub falls : (r t : Reader) (o : Result Report LineFault) → Some (told o) ≡ next (r .width .count) (r .lines) (r .place) (unread r) → Behind r t → length (unread t) < length (unread r)
+falls r t o e b =
+    let one = step (r .width .count) (r .lines) (r .place) (unread r) (told o) e .shorter in
+    omega (arith, ap length (b .unread))
 
+module _ {text : List ℕ} {width : Width} {all : List (Result Report LineFault)} {r : Reader} (s : Sofar text width all r) where
   pub one-more : (o : Result Report LineFault) (t : Reader) → Some (told o) ≡ next (r .width .count) (r .lines) (r .place) (unread r) → Behind r t → Sofar text width (all ++ o ∷ []) t
   one-more o t e b =
       let one = step (r .width .count) (r .lines) (r .place) (unread r) (told o) e in

@@ -26,43 +26,54 @@ impl fmt::Display for Shown<'_> as ShownDisplay {
     }
 }
 
-fn show_line(rt: &LibcRuntime, number: usize, fields: &[Field]) -> io::Result<()> {
-    println!(rt, "  line {number}")?;
-    for field in fields {
-        let shown = Shown(*field);
-        println!(rt, "    {shown}")?;
-    }
-    Ok(())
+// A text of at most eight lines of at most eight fields.
+#[derive(Clone, Copy)]
+struct Example<'a> {
+    name: &'a str,
+    text: &'a [u8],
 }
 
-fn show_text(rt: &LibcRuntime, name: &str, text: &[u8]) -> io::Result<()> {
-    println!(rt, "{name}")?;
-    let mut place = 0;
-    for number in 1..9 {
-        if place >= text.len() {
-            break;
-        }
-        let mut fields = [Field::Plain(b""); 8];
-        match read_line(text, place, number, &mut fields) {
-            Ok(line) => {
-                show_line(rt, number, &fields[0..line.fields.min(8)])?;
-                place = line.next;
-            }
-            Err(fault) => {
-                println!(rt, "  {fault:?}")?;
+impl fmt::Display for Example<'_> as ExampleDisplay {
+    fn fmt<W: fmt::Write>(&self, f: &mut fmt::Formatter<W>) -> fmt::Result {
+        let name = self.name;
+        write!(f, "{name}")?;
+        let mut place = 0;
+        for number in 1..9 {
+            if place >= self.text.len() {
                 break;
             }
+            let mut fields = [Field::Plain(b""); 8];
+            match read_line(self.text, place, number, &mut fields) {
+                Ok(line) => {
+                    write!(f, "\n  line {number}")?;
+                    for field in &fields[0..line.fields.min(8)] {
+                        let shown = Shown(*field);
+                        write!(f, "\n    {shown}")?;
+                    }
+                    place = line.next;
+                }
+                Err(fault) => {
+                    write!(f, "\n  {fault:?}")?;
+                    break;
+                }
+            }
         }
+        Ok(())
     }
-    Ok(())
 }
 
 fn main(rt: LibcRuntime) -> io::Result<()> {
-    show_text(&rt, "1: each record on a line, with a line break", b"aaa,bbb,ccc\r\nzzz,yyy,xxx\r\n")?;
-    show_text(&rt, "2: the last record may have no line break", b"aaa,bbb,ccc\r\nzzz,yyy,xxx")?;
-    show_text(&rt, "3: a header line", b"field_name,field_name,field_name\r\naaa,bbb,ccc\r\nzzz,yyy,xxx\r\n")?;
-    show_text(&rt, "4: fields separated by commas", b"aaa,bbb,ccc")?;
-    show_text(&rt, "5: fields in quotation marks or not", b"\"aaa\",\"bbb\",\"ccc\"\r\nzzz,yyy,xxx")?;
-    show_text(&rt, "6: a line break inside quotation marks", b"\"aaa\",\"b\r\nbb\",\"ccc\"\r\nzzz,yyy,xxx")?;
-    show_text(&rt, "7: a doubled quotation mark", b"\"aaa\",\"b\"\"bb\",\"ccc\"")
+    let examples = [
+        Example { name: "1: each record on a line, with a line break", text: b"aaa,bbb,ccc\r\nzzz,yyy,xxx\r\n" },
+        Example { name: "2: the last record may have no line break", text: b"aaa,bbb,ccc\r\nzzz,yyy,xxx" },
+        Example { name: "3: a header line", text: b"field_name,field_name,field_name\r\naaa,bbb,ccc\r\nzzz,yyy,xxx\r\n" },
+        Example { name: "4: fields separated by commas", text: b"aaa,bbb,ccc" },
+        Example { name: "5: fields in quotation marks or not", text: b"\"aaa\",\"bbb\",\"ccc\"\r\nzzz,yyy,xxx" },
+        Example { name: "6: a line break inside quotation marks", text: b"\"aaa\",\"b\r\nbb\",\"ccc\"\r\nzzz,yyy,xxx" },
+        Example { name: "7: a doubled quotation mark", text: b"\"aaa\",\"b\"\"bb\",\"ccc\"" },
+    ];
+    for example in &examples {
+        println!(rt, "{example}")?;
+    }
+    Ok(())
 }

@@ -12,7 +12,7 @@ loop-outcome-holds c =
     (begun (c .args .text .now) (c .args .width) (c .begin-reader .result) (c .begin-reader .ensures))
 
 pub loop-outcome-less : need.loop-outcome-less
-loop-outcome-less c = falls (c .loop-outcome .inv) (c .in-Some .outcome) (c .next-line .last .self) (c .in-Some .ensures tt .answer) (c .in-Some .ensures tt .behind)
+loop-outcome-less c = falls (c .loop-outcome .reader) (c .next-line .last .self) (c .in-Some .outcome) (c .in-Some .ensures tt .answer) (c .in-Some .ensures tt .behind)
 
 pub loop-outcome-again : need.loop-outcome-again
 loop-outcome-again c =
