@@ -28,6 +28,10 @@ fn main(rt: LibcRuntime) -> Result<(), AnyError> {
     }
     let lines = findings.lines.len();
     let taken = findings.taken;
-    println!(rt, "{lines} lines: {taken} taken, {} turned away", lines.saturating_sub(taken))?;
+    println!(
+        rt,
+        "{lines} lines: {taken} taken, {} turned away",
+        lines.saturating_sub(taken)
+    )?;
     Ok(())
 }

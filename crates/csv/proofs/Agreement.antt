@@ -148,9 +148,9 @@ tells-behind f (b ∷ bs) l s ih =
     ⊎-elim
     (λ h. subst (LineTells (written f ++ b ∷ bs)) (sym (cond-true (eqb b 44) next end h)) (subst (λ x. LineTells (written f ++ x ∷ bs) next) (sym (eqb-true b 44 h)) (tells-before f bs (read-line bs) l (ih bs (omega arith)))))
     (λ h.
-      let two = ⊎-elim (λ c. absurd (both-ways (eqb b 44) h c)) (λ c. and-parts (eqb b 13) (begins-with-lf bs) c) (or-cases (eqb b 44) (eqb b 13 && begins-with-lf bs) s) in
-      let same : b ∷ bs ≡ 13 ∷ 10 ∷ drop 1 bs = ap (λ x. x ∷ bs) (eqb-true b 13 (two .0)) ∙ ap (λ x. 13 ∷ x) (after-lf bs (two .1)) in
-      subst (LineTells (written f ++ b ∷ bs)) (sym (cond-false (eqb b 44) next end h)) (record { behind = b ∷ bs; split = refl; lawful = (tt, l); ends = inl same }))
+    let two = ⊎-elim (λ c. absurd (both-ways (eqb b 44) h c)) (λ c. and-parts (eqb b 13) (begins-with-lf bs) c) (or-cases (eqb b 44) (eqb b 13 && begins-with-lf bs) s) in
+    let same : b ∷ bs ≡ 13 ∷ 10 ∷ drop 1 bs = ap (λ x. x ∷ bs) (eqb-true b 13 (two .0)) ∙ ap (λ x. 13 ∷ x) (after-lf bs (two .1)) in
+    subst (LineTells (written f ++ b ∷ bs)) (sym (cond-false (eqb b 44) next end h)) (record { behind = b ∷ bs; split = refl; lawful = (tt, l); ends = inl same }))
     (cases-bool (eqb b 44))
 
 tells-after : (text : List ℕ) (r : FieldRead) → read-field text ≡ r → Tells text r → ((bs : List ℕ) → length bs < length text → LineTells bs (read-line bs)) → LineTells text (after-field read-line text r)

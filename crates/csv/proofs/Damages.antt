@@ -28,7 +28,7 @@ use Rattle.csv.proofs.Agreement.{plain-prefix, inside-prefix, reads-plain, fie
 spoilt-line : (front : List FieldText) (tail : List ℕ) (w : Wrong) (n : ℕ) → AllLawful front → read-field tail ≡ faulty w n → laws.HasLine (with-commas front ++ tail) → ⊥
 spoilt-line front tail w n l e h =
     let a : read-line (with-commas front ++ tail) ≡ damaged front w n =
-      front-reads front tail l ∙ ap (in-front front) (line-step tail ∙ ap (after-field read-line tail) e) ∙ front-damaged front [] w n ∙ ap (λ x. damaged x w n) (append-nil front) in
+    front-reads front tail l ∙ ap (in-front front) (line-step tail ∙ ap (after-field read-line tail) e) ∙ front-damaged front [] w n ∙ ap (λ x. damaged x w n) (append-nil front) in
     let b = derived-reads _ (h .front) (h .last) (h .rest) (h .derives) in
     let z : _≡_ {A = ℕ} 0 1 = cc in omega arith
 
@@ -95,13 +95,13 @@ plain-spoils tail n m o =
       within = h;
       ends = (plainly (take n tail), [], o .bytes, append-nil (take n tail));
       here = λ more.
-        ⊎-elim
-        (λ t. inr (stopped y (drop (suc n) tail) more stuck t))
-        (λ f. inl (
+          ⊎-elim
+          (λ t. inr (stopped y (drop (suc n) tail) more stuck t))
+          (λ f. inl (
           reads-plain (take (suc n) tail ++ more) (ne-eqb _ 34 (λ e. m (sym (same-first tail n more h) ∙ e)))
           ∙ ap (as-plain (take (suc n) tail ++ more)) (ap plain-extent (at-byte tail n more h) ∙ plain-stuck (take n tail) y more (o .bytes) (o .other) f)
           ∙ ap (faulty not-allowed) size))
-        (cases-bool (stops (y ∷ more)));
+          (cases-bool (stops (y ∷ more)));
       alone = cr-alone y (drop (suc n) tail) stuck;
     }
 
@@ -114,8 +114,8 @@ quotes-spoil xs n o =
       within = omega arith;
       ends = (quoted (take n xs), 34 ∷ [], o .bytes, refl);
       here = λ more. inl (
-        ap (as-quoted (take (suc n) xs ++ more)) (ap quoted-extent (at-byte xs n more h) ∙ inside-stuck y more (o .bytes) (o .other) (o .no-mark))
-        ∙ ap (faulty not-allowed) (omega (arith, size)));
+          ap (as-quoted (take (suc n) xs ++ more)) (ap quoted-extent (at-byte xs n more h) ∙ inside-stuck y more (o .bytes) (o .other) (o .no-mark))
+          ∙ ap (faulty not-allowed) (omega (arith, size)));
       alone = λ e. let t : inside y ≡ true = ap inside e in absurd (both-ways (inside y) (o .other) t);
     }
 
@@ -130,14 +130,14 @@ mark-spoils xs n o =
       within = omega arith;
       ends = (quoted (take n xs), [], o .bytes, append-nil (34 ∷ take (suc n) xs) ∙ ap (λ l. 34 ∷ l) mark);
       here = λ more.
-        ⊎-elim
-        (λ t. inr (stopped y (drop (suc (suc n)) xs) more stuck t))
-        (λ f. inl (
+          ⊎-elim
+          (λ t. inr (stopped y (drop (suc (suc n)) xs) more stuck t))
+          (λ f. inl (
           ap (as-quoted (take (suc (suc n)) xs ++ more)) (
-            ap quoted-extent (at-byte xs (suc n) more h ∙ ap (λ l. l ++ y ∷ more) mark ∙ append-assoc (take n xs) (34 ∷ []) (y ∷ more))
-            ∙ mark-stuck y more (o .bytes) (o .no-mark) f)
+          ap quoted-extent (at-byte xs (suc n) more h ∙ ap (λ l. l ++ y ∷ more) mark ∙ append-assoc (take n xs) (34 ∷ []) (y ∷ more))
+          ∙ mark-stuck y more (o .bytes) (o .no-mark) f)
           ∙ ap (faulty not-allowed) (omega (arith, size))))
-        (cases-bool (stops (y ∷ more)));
+          (cases-bool (stops (y ∷ more)));
       alone = cr-alone y (drop (suc (suc n)) xs) stuck;
     }
 
@@ -164,10 +164,10 @@ offends front tail n l s =
       within = omega (arith, s .within, length-append F tail);
       before = (s .ends .1, whole-line front (s .ends .0) _ l (s .ends .2) (after F tail (s .ends .1) (length F + n) n refl ∙ ap (λ x. F ++ x) (s .ends .3)));
       here = λ more h.
-        ⊎-elim
-        (λ e. absurd (spoilt-line front (take (suc n) tail ++ more) not-allowed n l e (subst laws.HasLine (after F tail more (suc (length F + n)) (suc n) (omega arith)) h)))
-        (λ c. (byte ∙ c .0, c .1))
-        (s .here more);
+          ⊎-elim
+          (λ e. absurd (spoilt-line front (take (suc n) tail ++ more) not-allowed n l e (subst laws.HasLine (after F tail more (suc (length F + n)) (suc n) (omega arith)) h)))
+          (λ c. (byte ∙ c .0, c .1))
+          (s .here more);
       alone = λ e. ap begins-with-lf (ap (λ k. drop k (F ++ tail)) (sym (add-suc (length F) n)) ∙ drop-front F tail (suc n)) ∙ s .alone (sym byte ∙ e);
     }
 
@@ -193,15 +193,15 @@ mark-or-open (b ∷ bs) =
     ⊎-elim
     (λ h. inl (0, omega arith, eqb-true b 34 h))
     (λ h.
-      ⊎-elim
-      (λ m. inl (suc (m .0), omega (arith, m .1), m .2))
-      (λ o. inr (
-        ap closes (cond-false (eqb b 34) (mark-extent bs) other h)
-        ∙ ⊎-elim
-          (λ i. ap closes (cond-true (inside b) (further 1 (quoted-extent bs)) (Offends 0) i) ∙ closes-further 1 (quoted-extent bs) ∙ o)
-          (λ i. ap closes (cond-false (inside b) (further 1 (quoted-extent bs)) (Offends 0) i))
-          (cases-bool (inside b))))
-      (mark-or-open bs))
+    ⊎-elim
+    (λ m. inl (suc (m .0), omega (arith, m .1), m .2))
+    (λ o. inr (
+    ap closes (cond-false (eqb b 34) (mark-extent bs) other h)
+    ∙ ⊎-elim
+    (λ i. ap closes (cond-true (inside b) (further 1 (quoted-extent bs)) (Offends 0) i) ∙ closes-further 1 (quoted-extent bs) ∙ o)
+    (λ i. ap closes (cond-false (inside b) (further 1 (quoted-extent bs)) (Offends 0) i))
+    (cases-bool (inside b))))
+    (mark-or-open bs))
     (cases-bool (eqb b 34))
 
 open-faulty : (bs : List ℕ) (e : Extent) → closes e ≡ false → (w : Wrong) × (n : ℕ) × (as-quoted bs e ≡ faulty w n)
@@ -216,13 +216,13 @@ unclosed-at front xs l i =
       end = sym (length-append F (34 ∷ xs));
       before = (34 ∷ [], whole-line front (quoted xs) _ l i (append-assoc F (34 ∷ xs) (34 ∷ [])));
       here = λ more h.
-        ⊎-elim
-        (λ m. m)
-        (λ o.
+          ⊎-elim
+          (λ m. m)
+          (λ o.
           let open-still : closes (quoted-extent (xs ++ more)) ≡ false = ap closes (inside-prefix more i) ∙ closes-further (length xs) (quoted-extent more) ∙ o in
           let f = open-faulty (xs ++ more) (quoted-extent (xs ++ more)) open-still in
           absurd (spoilt-line front (34 ∷ (xs ++ more)) (f .0) (f .1) l (f .2) (subst laws.HasLine (append-assoc F (34 ∷ xs) more) h)))
-        (mark-or-open more);
+          (mark-or-open more);
     }
 
 because : (front : List FieldText) (tail : List ℕ) (w : Wrong) (n : ℕ) → AllLawful front → Spoilt tail w n → laws.Because w (with-commas front ++ tail) (length (with-commas front) + n)
@@ -241,9 +241,9 @@ means text (damaged front w n) t =
       split = t .split;
       lawful = t .lawful;
       no-more = λ f rest l e.
-        let a = t .spoilt in
-        let b : read-field (t .tail) ≡ whole f = ap read-field e ∙ field-reads f (44 ∷ rest) l refl in
-        let z : _≡_ {A = ℕ} 0 1 = cc in omega arith;
+          let a = t .spoilt in
+          let b : read-field (t .tail) ≡ whole f = ap read-field e ∙ field-reads f (44 ∷ rest) l refl in
+          let z : _≡_ {A = ℕ} 0 1 = cc in omega arith;
       because = subst (λ x. laws.Because w x (length (with-commas front) + n)) (sym (t .split)) (because front (t .tail) w n (t .lawful) spoilt);
     }
 
@@ -281,8 +281,8 @@ resumes [] = at-end none-in-nothing
 resumes (b ∷ bs) =
     ⊎-elim
     (λ h.
-      let p = and-parts (eqb b 13) (begins-with-lf bs) h in
-      subst (Resumes (b ∷ bs)) (sym (cond-true (eqb b 13 && begins-with-lf bs) (drop 1 bs) (behind-line-end bs) h))
-      (behind-first [] (ap (λ x. x ∷ bs) (eqb-true b 13 (p .0)) ∙ ap (λ x. 13 ∷ x) (after-lf bs (p .1))) none-in-cr))
+    let p = and-parts (eqb b 13) (begins-with-lf bs) h in
+    subst (Resumes (b ∷ bs)) (sym (cond-true (eqb b 13 && begins-with-lf bs) (drop 1 bs) (behind-line-end bs) h))
+    (behind-first [] (ap (λ x. x ∷ bs) (eqb-true b 13 (p .0)) ∙ ap (λ x. 13 ∷ x) (after-lf bs (p .1))) none-in-cr))
     (λ h. subst (Resumes (b ∷ bs)) (sym (cond-false (eqb b 13 && begins-with-lf bs) (drop 1 bs) (behind-line-end bs) h)) (resumes-cons b bs (behind-line-end bs) h (resumes bs)))
     (cases-bool (eqb b 13 && begins-with-lf bs))

@@ -71,9 +71,9 @@ behind-is text from =
     ⊎-elim
     (λ h. behind-place (b .from) from (behind-line-end (drop from text)) text (b .is) (omega (arith, length-drop from text)))
     (λ h.
-      let none : behind-line-end (drop from text) ≡ [] = ap behind-line-end (drop-all from text h) in
-      let zero-long = ap length none in
-      drop-all (length text - length (behind-line-end (drop from text))) text (omega arith) ∙ sym none)
+    let none : behind-line-end (drop from text) ≡ [] = ap behind-line-end (drop-all from text h) in
+    let zero-long = ap length none in
+    drop-all (length text - length (behind-line-end (drop from text))) text (omega arith) ∙ sym none)
     (cases-lt from (length text))
 
 -- Reading a line does not depend on how many fields are allowed, if they are more than the bytes.

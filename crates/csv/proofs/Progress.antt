@@ -75,16 +75,16 @@ filled-put front entry fields f h e =
     let long = length-push front (field-text f) in
     record {
       shows =
-        ap (λ n. map field-text (take n (set fields k f))) long
-        ∙ ap (map field-text) (take-more-set fields k f h)
-        ∙ map-push field-text (take k fields) f
-        ∙ ap (λ l. l ++ field-text f ∷ []) (e .shows ∙ take-all (length fields) front (omega arith))
-        ∙ sym (take-all (length (set fields k f)) (front ++ field-text f ∷ []) (omega (arith, long, length-set fields k f)));
+          ap (λ n. map field-text (take n (set fields k f))) long
+          ∙ ap (map field-text) (take-more-set fields k f h)
+          ∙ map-push field-text (take k fields) f
+          ∙ ap (λ l. l ++ field-text f ∷ []) (e .shows ∙ take-all (length fields) front (omega arith))
+          ∙ sym (take-all (length (set fields k f)) (front ++ field-text f ∷ []) (omega (arith, long, length-set fields k f)));
       keeps =
-        ap (λ n. drop n (set fields k f)) long
-        ∙ drop-set-lt (k + 1) fields k f (omega arith)
-        ∙ sym (drop-drop 1 k fields) ∙ ap (drop 1) (e .keeps) ∙ drop-drop 1 k entry
-        ∙ ap (λ n. drop n entry) (sym long);
+          ap (λ n. drop n (set fields k f)) long
+          ∙ drop-set-lt (k + 1) fields k f (omega arith)
+          ∙ sym (drop-drop 1 k fields) ∙ ap (drop 1) (e .keeps) ∙ drop-drop 1 k entry
+          ∙ ap (λ n. drop n entry) (sym long);
     }
 
 filled-past : (front : List FieldText) (entry fields : List Field) (f : Field) → length fields ≤ length front → Filled front entry fields → Filled (front ++ field-text f ∷ []) entry fields
@@ -93,10 +93,10 @@ filled-past front entry fields f h e =
     let long = length-push front (field-text f) in
     record {
       shows =
-        ap (map field-text) (take-all (length (front ++ field-text f ∷ [])) fields (omega (arith, long)) ∙ sym (take-all k fields h))
-        ∙ e .shows ∙ sym (take-append-le (length fields) front (field-text f ∷ []) h);
+          ap (map field-text) (take-all (length (front ++ field-text f ∷ [])) fields (omega (arith, long)) ∙ sym (take-all k fields h))
+          ∙ e .shows ∙ sym (take-append-le (length fields) front (field-text f ∷ []) h);
       keeps =
-        ap (λ n. drop n fields) long ∙ sym (drop-drop 1 k fields) ∙ ap (drop 1) (e .keeps) ∙ drop-drop 1 k entry ∙ ap (λ n. drop n entry) (sym long);
+          ap (λ n. drop n fields) long ∙ sym (drop-drop 1 k fields) ∙ ap (drop 1) (e .keeps) ∙ drop-drop 1 k entry ∙ ap (λ n. drop n entry) (sym long);
     }
 
 -- one field more, at its place or past the room
@@ -104,9 +104,9 @@ pub filled-more : (front : List FieldText) (entry fields : List Field) (f : Fiel
 filled-more front entry fields f i here e =
     subst (λ k. Filled (front ++ field-text f ∷ []) entry (set fields k f)) (sym here)
     (⊎-elim
-      (λ h. filled-put front entry fields f h e)
-      (λ h. subst (Filled (front ++ field-text f ∷ []) entry) (sym (set-past fields (length front) f h)) (filled-past front entry fields f h e))
-      (cases-lt (length front) (length fields)))
+    (λ h. filled-put front entry fields f h e)
+    (λ h. subst (Filled (front ++ field-text f ∷ []) entry) (sym (set-past fields (length front) f h)) (filled-past front entry fields f h e))
+    (cases-lt (length front) (length fields)))
 
 pub start : (text : List ℕ) (place number : ℕ) (entry : List Field) → Sofar text place number entry (record { line = number; column = 1; byte = min place (length text) }) entry
 start text place number entry =
@@ -148,8 +148,8 @@ at-line-end g (b ∷ bs) s d =
     ⊎-elim
     (λ h. let e = cond-true (eqb b 44) Comma LineEnd h in let z : _≡_ {A = ℕ} 0 1 = cc in absurd (omega arith))
     (λ h.
-      let lf = ⊎-elim (λ c. absurd (both-ways (eqb b 44) h c)) (λ c. and-parts (eqb b 13) (begins-with-lf bs) c .1) (or-cases (eqb b 44) (eqb b 13 && begins-with-lf bs) s) in
-      record { more = omega (arith, lf-some bs lf); goes = cond-false (eqb b 44) (before g (read-line bs)) (cut [] g (drop 1 bs)) h })
+    let lf = ⊎-elim (λ c. absurd (both-ways (eqb b 44) h c)) (λ c. and-parts (eqb b 13) (begins-with-lf bs) c .1) (or-cases (eqb b 44) (eqb b 13 && begins-with-lf bs) s) in
+    record { more = omega (arith, lf-some bs lf); goes = cond-false (eqb b 44) (before g (read-line bs)) (cut [] g (drop 1 bs)) h })
     (cases-bool (eqb b 44))
 
 at-text-end : (ys : List ℕ) → delimiter ys ≡ TextEnd → ys ≡ []
@@ -182,9 +182,9 @@ module _ {text : List ℕ} {place number : ℕ} {entry : List Field} {at : Locat
       let rest = drop (at .byte) text in
       let front = s .front in
       let read : read-line (drop place text) ≡ damaged front w n =
-        s .reads ∙ ap (in-front front) (line-step rest ∙ ap (after-field read-line rest) e) ∙ front-damaged front [] w n ∙ ap (λ l. damaged l w n) (append-nil front) in
+      s .reads ∙ ap (in-front front) (line-step rest ∙ ap (after-field read-line rest) e) ∙ front-damaged front [] w n ∙ ap (λ l. damaged l w n) (append-nil front) in
       let near : place ≤ length text =
-        ⊎-elim (λ h. omega arith) (λ h. let none = ap read-line (drop-all place text h) in let z : _≡_ {A = ℕ} 0 1 = cc in absurd (omega arith)) (cases-lt place (length text)) in
+      ⊎-elim (λ h. omega arith) (λ h. let none = ap read-line (drop-all place text h) in let z : _≡_ {A = ℕ} 0 1 = cc in absurd (omega arith)) (cases-lt place (length text)) in
       let same : at .byte ≡ place + length (with-commas front) = s .byte ∙ ap (λ k. k + length (with-commas front)) (min-eq-left near) in
       let loc : at ≡ field-behind number place front = λ i. record { line = s .line i; column = s .column i; byte = same i } in
       record {
@@ -229,7 +229,7 @@ module _ {text : List ℕ} {place number : ℕ} {entry : List Field} {at : Locat
     last : (rest : List ℕ) → behind-field read-line (field-text f) (drop end text) ≡ cut [] (field-text f) rest → (next : ℕ) → next ≡ length text - length rest → Answered text place number entry now (Ok (record { fields = at .column; next = next }))
     last rest e next n =
         let read : read-line (drop place text) ≡ cut (s .front) (field-text f) rest =
-          goes ∙ ap (in-front (s .front)) e ∙ front-cut (s .front) [] (field-text f) rest ∙ ap (λ l. cut l (field-text f) rest) (append-nil (s .front)) in
+        goes ∙ ap (in-front (s .front)) e ∙ front-cut (s .front) [] (field-text f) rest ∙ ap (λ l. cut l (field-text f) rest) (append-nil (s .front)) in
         record {
           answer = (λ i. Ok (record { fields = s .column i; next = n i })) ∙ ap (line-answer number place (length text)) (sym read);
           filled = subst (λ r. Filled (fields-of r) entry now) (sym read) put;

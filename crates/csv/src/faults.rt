@@ -19,7 +19,11 @@ impl Location {
         requires { ⌜ self .byte + bytes < 2 ^ 64 ⌝ }
         ensures { λ r. ⌜ r ≡ record { line = self .line; column = self .column; byte = self .byte + bytes } ⌝ }
     {
-        Location { line: self.line, column: self.column, byte: self.byte + bytes }
+        Location {
+            line: self.line,
+            column: self.column,
+            byte: self.byte + bytes,
+        }
     }
 
     // The next column, behind the comma at the byte `end`.
@@ -27,7 +31,11 @@ impl Location {
         requires { ⌜ self .column + 1 < 2 ^ 64 ⌝ ∗ ⌜ end + 1 < 2 ^ 64 ⌝ }
         ensures { λ r. ⌜ r ≡ record { line = self .line; column = self .column + 1; byte = end + 1 } ⌝ }
     {
-        Location { line: self.line, column: self.column + 1, byte: end + 1 }
+        Location {
+            line: self.line,
+            column: self.column + 1,
+            byte: end + 1,
+        }
     }
 }
 
@@ -72,8 +80,16 @@ impl TextFault {
         ensures { λ r. ⌜ r ≡ text-diagnostic (now (self .entry)) ⌝ }
     {
         match *self {
-            TextFault::NotAllowed { at, .. } => Diagnostic { number: 9, layer: Layer::Text, at },
-            TextFault::Unclosed { at, .. } => Diagnostic { number: 11, layer: Layer::Text, at },
+            TextFault::NotAllowed { at, .. } => Diagnostic {
+                number: 9,
+                layer: Layer::Text,
+                at,
+            },
+            TextFault::Unclosed { at, .. } => Diagnostic {
+                number: 11,
+                layer: Layer::Text,
+                at,
+            },
         }
     }
 

@@ -108,7 +108,11 @@ fn quoted_run(text: &[u8]) -> Extent
         match rest {
             [b'"', behind @ ..] => {
                 let [b'"', tail @ ..] = behind else {
-                    return if stops_before(behind) { Extent::Ends(n) } else { Extent::Offends(n + 1) };
+                    return if stops_before(behind) {
+                        Extent::Ends(n)
+                    } else {
+                        Extent::Offends(n + 1)
+                    };
                 };
                 n += 2;
                 rest = tail;
@@ -145,13 +149,25 @@ pub(crate) fn field_at(text: &[u8], at: Location) -> Result<Field<'_>, TextFault
     match rest {
         [b'"', tail @ ..] => match quoted_run(tail) {
             Extent::Ends(n) => Ok(Field::Quoted(&tail[0..n])),
-            Extent::Offends(n) => Err(TextFault::NotAllowed { at: at.forward(1 + n), field }),
-            Extent::Runs(n) => Err(TextFault::Unclosed { at: at.forward(1 + n), field }),
+            Extent::Offends(n) => Err(TextFault::NotAllowed {
+                at: at.forward(1 + n),
+                field,
+            }),
+            Extent::Runs(n) => Err(TextFault::Unclosed {
+                at: at.forward(1 + n),
+                field,
+            }),
         },
         _ => match plain_run(rest) {
             Extent::Ends(n) => Ok(Field::Plain(&rest[0..n])),
-            Extent::Offends(n) => Err(TextFault::NotAllowed { at: at.forward(n), field }),
-            Extent::Runs(n) => Err(TextFault::Unclosed { at: at.forward(n), field }),
+            Extent::Offends(n) => Err(TextFault::NotAllowed {
+                at: at.forward(n),
+                field,
+            }),
+            Extent::Runs(n) => Err(TextFault::Unclosed {
+                at: at.forward(n),
+                field,
+            }),
         },
     }
 }

@@ -63,7 +63,12 @@ pub fn next_line(text: &[u8], from: usize) -> usize
 
 // Reads the line of `text` that begins at the byte `place`, under the number `number`, and puts its fields into
 // `fields`, as far as these reach: all are read, whether or not there is room for them.
-pub fn read_line<'a>(text: &'a [u8], place: usize, number: usize, fields: &mut [Field<'a>]) -> Result<Line, TextFault>
+pub fn read_line<'a>(
+    text: &'a [u8],
+    place: usize,
+    number: usize,
+    fields: &mut [Field<'a>],
+) -> Result<Line, TextFault>
     ensures agrees { λ _. ⌜ Agrees (drop place (now (text .entry))) ⌝ }
     ensures answer { λ r. ⌜ r ≡ line-answer number place (length (now (text .entry))) (read-line (drop place (now (text .entry)))) ⌝ }
     ensures fields { λ _. ⌜ Filled (fields-of (read-line (drop place (now (text .entry))))) (now (fields .entry)) (now (fields .exit)) ⌝ }
@@ -79,8 +84,14 @@ pub fn read_line<'a>(text: &'a [u8], place: usize, number: usize, fields: &mut [
         let end = at.byte + field.size();
         match delimiter_at(text, end) {
             Delimiter::Comma => at = at.behind_comma(end),
-            Delimiter::LineEnd => return Ok(Line { fields: at.column, next: end + 2 }),
-            Delimiter::TextEnd => return Ok(Line { fields: at.column, next: end }),
+            Delimiter::LineEnd => return Ok(Line {
+                fields: at.column,
+                next: end + 2,
+            }),
+            Delimiter::TextEnd => return Ok(Line {
+                fields: at.column,
+                next: end,
+            }),
         }
     }
 }

@@ -21,7 +21,6 @@ pub one-more : (lines : List Line) (i n : ℕ) (d : Line) (t : Bool) → i < len
 one-more lines i n d t h e is =
     sym (length-kept-by-more isOk lines i d h ∙ (λ j. sym e j + cond (sym is j) 1 0))
 
-
 -- what is told of the lines has as many taken
 pub told-taken : (lines : List Line) → length (kept-by isOk lines) ≡ length (kept-by isOk (map told lines))
 told-taken [] = refl

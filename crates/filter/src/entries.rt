@@ -24,14 +24,20 @@ pub impl fmt::Display for Entry as EntryDisplay {
                 let width = report.values[0];
                 let model = report.values[1];
                 let reading = report.reading;
-                write!(f, "line {line}: owner {owner}, width {width}, model {model}, reading {reading}")
+                write!(
+                    f,
+                    "line {line}: owner {owner}, width {width}, model {model}, reading {reading}"
+                )
             }
             Err(fault) => {
                 let Diagnostic { number, layer, at } = fault.diagnostic();
                 let line = at.line;
                 let column = at.column;
                 let byte = at.byte;
-                write!(f, "line {line}: turned away, {number} ({layer}) at column {column}, byte {byte}")
+                write!(
+                    f,
+                    "line {line}: turned away, {number} ({layer}) at column {column}, byte {byte}"
+                )
             }
         }
     }

@@ -41,12 +41,12 @@ line-advances xs front last rest d =
     let L = written last in
     ⊎-elim
     (λ e.
-      by-split (F ++ (L ++ 13 ∷ 10 ∷ [])) rest xs
-      (d .split ∙ ap (λ b. F ++ (L ++ b)) e ∙ sym (append-assoc F (L ++ 13 ∷ 10 ∷ []) rest ∙ ap (λ l. F ++ l) (append-assoc L (13 ∷ 10 ∷ []) rest)))
-      (λ h. omega (arith, length-append F (L ++ 13 ∷ 10 ∷ []), length-append L (13 ∷ 10 ∷ []))))
+    by-split (F ++ (L ++ 13 ∷ 10 ∷ [])) rest xs
+    (d .split ∙ ap (λ b. F ++ (L ++ b)) e ∙ sym (append-assoc F (L ++ 13 ∷ 10 ∷ []) rest ∙ ap (λ l. F ++ l) (append-assoc L (13 ∷ 10 ∷ []) rest)))
+    (λ h. omega (arith, length-append F (L ++ 13 ∷ 10 ∷ []), length-append L (13 ∷ 10 ∷ []))))
     (λ e.
-      subst (Advances xs) (sym (e .1))
-      (record { suffix = drop-all (length xs - 0) xs (omega arith); shorter = λ h. h; within = omega arith }))
+    subst (Advances xs) (sym (e .1))
+    (record { suffix = drop-all (length xs - 0) xs (omega arith); shorter = λ h. h; within = omega arith }))
     (d .ends)
 
 end-shorter : (b : ℕ) (bs : List ℕ) → length (behind-line-end (b ∷ bs)) ≤ length bs

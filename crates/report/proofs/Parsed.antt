@@ -98,8 +98,8 @@ module _ (fields : List Field) (width line byte : ℕ) (count : length fields �
         count = refl;
         shown = refl;
         reads =
-          column-number width texts 0 (omega (arith, many)) ∙ ap (λ o. number-column o (columns width (drop 1 texts))) e
-          ∙ ap (λ n. and-before owner (columns n (drop 1 texts))) (sym (sub-zero width));
+            column-number width texts 0 (omega (arith, many)) ∙ ap (λ o. number-column o (columns width (drop 1 texts))) e
+            ∙ ap (λ n. and-before owner (columns n (drop 1 texts))) (sym (sub-zero width));
       }
 
   module _ {owner i : ℕ} {values : List ℕ} (s : Sofar fields width owner i values) where
@@ -123,12 +123,12 @@ module _ (fields : List Field) (width line byte : ℕ) (count : length fields �
           read = s .read ++ v ∷ [];
           count = length-push (s .read) v ∙ ap (λ n. n + 1) (s .count);
           shown =
-            ap (λ l. set l i v) (s .shown ∙ ap (λ n. s .read ++ replicate n 0) left)
-            ∙ set-at (s .read) 0 (replicate (6 - (i + 1)) 0) v i (s .count)
-            ∙ sym (append-assoc (s .read) (v ∷ []) (replicate (6 - (i + 1)) 0));
+              ap (λ l. set l i v) (s .shown ∙ ap (λ n. s .read ++ replicate n 0) left)
+              ∙ set-at (s .read) 0 (replicate (6 - (i + 1)) 0) v i (s .count)
+              ∙ sym (append-assoc (s .read) (v ∷ []) (replicate (6 - (i + 1)) 0));
           reads =
-            s .reads ∙ ap (all-before (owner ∷ s .read)) (number-next h ∙ ap (λ o. number-column o (columns (width - (i + 1)) (drop (suc (i + 1)) texts))) e)
-            ∙ sym (before-push (owner ∷ s .read) v (columns (width - (i + 1)) (drop (suc (i + 1)) texts)));
+              s .reads ∙ ap (all-before (owner ∷ s .read)) (number-next h ∙ ap (λ o. number-column o (columns (width - (i + 1)) (drop (suc (i + 1)) texts))) e)
+              ∙ sym (before-push (owner ∷ s .read) v (columns (width - (i + 1)) (drop (suc (i + 1)) texts)));
         }
 
   module _ {owner i : ℕ} {values : List ℕ} (s : Sofar fields width owner i values) (all : i ≡ width) where
@@ -155,6 +155,6 @@ module _ (fields : List Field) (width line byte : ℕ) (count : length fields �
     done z e =
         let read = s .read in
         let all-read : columns (suc width) texts ≡ Ok (record { numbers = owner ∷ (read ++ []); reading = z }) =
-          s .reads ∙ ap (all-before (owner ∷ read)) (reading-next ∙ ap reading-column e) ∙ before-ok (owner ∷ read) (record { numbers = []; reading = z }) in
+        s .reads ∙ ap (all-before (owner ∷ read)) (reading-next ∙ ap reading-column e) ∙ before-ok (owner ∷ read) (record { numbers = []; reading = z }) in
         let shown : values ≡ take 6 ((read ++ []) ++ replicate 6 0) = s .shown ∙ sym (ap (λ l. take 6 (l ++ replicate 6 0)) (append-nil read) ∙ padded read i (s .count) (omega arith)) in
         (λ t. Ok (record { line = line; byte = byte; owner = owner; values = shown t; reading = z })) ∙ ap (of-columns line byte texts) (sym all-read)

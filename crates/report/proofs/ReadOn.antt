@@ -63,14 +63,14 @@ module _ {text : List ℕ} {width : Width} {all : List (Result Report LineFault)
       let one = step (r .width .count) (r .lines) (r .place) (unread r) (told o) e in
       let lines : t .lines ≡ r .lines + 1 = b .lines ∙ ap (λ n. r .lines + n) (one .counts) in
       let rest : to-come t ≡ outcomes-behind (length (left (unread r))) (r .width .count) (r .lines + 1) (r .place + size (unread r)) (left (unread r)) =
-        λ i. outcomes-behind (length (b .unread i)) (b .width i .count) (lines i) (b .place i) (b .unread i) in
+      λ i. outcomes-behind (length (b .unread i)) (b .width i .count) (lines i) (b .place i) (b .unread i) in
       record {
         width-is = b .width ∙ s .width-is;
         tells =
-          ap (λ l. l ++ to-come t) (map-push told all o)
-          ∙ append-assoc (map told all) (told o ∷ []) (to-come t)
-          ∙ ap (λ l. map told all ++ told o ∷ l) rest
-          ∙ ap (λ l. map told all ++ l) (sym (one .goes)) ∙ s .tells;
+            ap (λ l. l ++ to-come t) (map-push told all o)
+            ∙ append-assoc (map told all) (told o ∷ []) (to-come t)
+            ∙ ap (λ l. map told all ++ told o ∷ l) rest
+            ∙ ap (λ l. map told all ++ l) (sym (one .goes)) ∙ s .tells;
       }
 
   pub done : None ≡ next (r .width .count) (r .lines) (r .place) (unread r) → map told all ≡ outcomes (width .count) text

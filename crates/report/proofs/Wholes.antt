@@ -115,8 +115,8 @@ outcomes-more width b bs =
     let text = b ∷ bs in
     behind-more width 0 0 b bs
     ∙ ap (λ l. outcome width 1 0 text ∷ l) (
-        ap (λ n. outcomes-behind (length (left text)) width 1 n (left text)) (zero-add (size text) ∙ sym (add-zero (size text)))
-        ∙ behind-moved 1 (size text) (length (left text)) width 0 0 (left text))
+    ap (λ n. outcomes-behind (length (left text)) width 1 n (left text)) (zero-add (size text) ∙ sym (add-zero (size text)))
+    ∙ behind-moved 1 (size text) (length (left text)) width 0 0 (left text))
 
 lines-more : (b : ℕ) (bs : List ℕ) → lines-of (b ∷ bs) ≡ take (size (b ∷ bs)) (b ∷ bs) ∷ lines-of (left (b ∷ bs))
 lines-more b bs =

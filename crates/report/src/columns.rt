@@ -64,7 +64,11 @@ fn reading_at(fields: &[Field], i: usize, start: Location) -> Result<i32, LineFa
 }
 
 // The report of a line whose fields are as many as they should be.
-pub(crate) fn report_of(fields: &[Field], width: usize, start: Location) -> Result<Report, LineFault>
+pub(crate) fn report_of(
+    fields: &[Field],
+    width: usize,
+    start: Location,
+) -> Result<Report, LineFault>
     requires count { ⌜ length (now fields) ≡ width + 2 ⌝ }
     requires narrow { ⌜ width ≤ 6 ⌝ }
     requires fits { ⌜ start .byte + length (with-commas (map field-text (now fields))) < 2 ^ 64 ⌝ }

@@ -29,8 +29,16 @@ impl LineFault {
     {
         match *self {
             LineFault::Text(fault) => fault.diagnostic(),
-            LineFault::FieldCount(at) => Diagnostic { number: 12, layer: Layer::Line, at },
-            LineFault::FieldKind(at) => Diagnostic { number: 13, layer: Layer::Line, at },
+            LineFault::FieldCount(at) => Diagnostic {
+                number: 12,
+                layer: Layer::Line,
+                at,
+            },
+            LineFault::FieldKind(at) => Diagnostic {
+                number: 13,
+                layer: Layer::Line,
+                at,
+            },
         }
     }
 }
@@ -47,8 +55,14 @@ pub impl fmt::Display for LineFault as LineFaultDisplay {
     fn fmt<W: fmt::Write>(&self, f: &mut fmt::Formatter<W>) -> fmt::Result {
         match self {
             LineFault::Text(fault) => write!(f, "{fault}"),
-            LineFault::FieldCount(_) => write!(f, "another number of fields than a report line has"),
-            LineFault::FieldKind(_) => write!(f, "a field that is not the number that belongs there, or out of its range"),
+            LineFault::FieldCount(_) => write!(
+                f,
+                "another number of fields than a report line has"
+            ),
+            LineFault::FieldKind(_) => write!(
+                f,
+                "a field that is not the number that belongs there, or out of its range"
+            ),
         }
     }
 }

@@ -13,7 +13,11 @@ use std::alloc::AllocError;
 use std::alloc::Global;
 
 // What became of each line of `text`, in their order.
-pub fn read_all(heap: Global, text: &[u8], width: Width) -> Result<Vec<Result<Report, LineFault>>, AllocError>
+pub fn read_all(
+    heap: Global,
+    text: &[u8],
+    width: Width,
+) -> Result<Vec<Result<Report, LineFault>>, AllocError>
     ensures outcomes { λ r. ⌜ made r (λ v. map told (vec-items v) ≡ outcomes (width .count) (now (text .entry))) ⌝ }
     ensures whole { λ _. ⌜ Whole (width .count) (now (text .entry)) ⌝ }
 {

@@ -64,13 +64,34 @@ impl fmt::Display for Example<'_> as ExampleDisplay {
 
 fn main(rt: LibcRuntime) -> io::Result<()> {
     let examples = [
-        Example { name: "1: each record on a line, with a line break", text: b"aaa,bbb,ccc\r\nzzz,yyy,xxx\r\n" },
-        Example { name: "2: the last record may have no line break", text: b"aaa,bbb,ccc\r\nzzz,yyy,xxx" },
-        Example { name: "3: a header line", text: b"field_name,field_name,field_name\r\naaa,bbb,ccc\r\nzzz,yyy,xxx\r\n" },
-        Example { name: "4: fields separated by commas", text: b"aaa,bbb,ccc" },
-        Example { name: "5: fields in quotation marks or not", text: b"\"aaa\",\"bbb\",\"ccc\"\r\nzzz,yyy,xxx" },
-        Example { name: "6: a line break inside quotation marks", text: b"\"aaa\",\"b\r\nbb\",\"ccc\"\r\nzzz,yyy,xxx" },
-        Example { name: "7: a doubled quotation mark", text: b"\"aaa\",\"b\"\"bb\",\"ccc\"" },
+        Example {
+            name: "1: each record on a line, with a line break",
+            text: b"aaa,bbb,ccc\r\nzzz,yyy,xxx\r\n",
+        },
+        Example {
+            name: "2: the last record may have no line break",
+            text: b"aaa,bbb,ccc\r\nzzz,yyy,xxx",
+        },
+        Example {
+            name: "3: a header line",
+            text: b"field_name,field_name,field_name\r\naaa,bbb,ccc\r\nzzz,yyy,xxx\r\n",
+        },
+        Example {
+            name: "4: fields separated by commas",
+            text: b"aaa,bbb,ccc",
+        },
+        Example {
+            name: "5: fields in quotation marks or not",
+            text: b"\"aaa\",\"bbb\",\"ccc\"\r\nzzz,yyy,xxx",
+        },
+        Example {
+            name: "6: a line break inside quotation marks",
+            text: b"\"aaa\",\"b\r\nbb\",\"ccc\"\r\nzzz,yyy,xxx",
+        },
+        Example {
+            name: "7: a doubled quotation mark",
+            text: b"\"aaa\",\"b\"\"bb\",\"ccc\"",
+        },
     ];
     for example in &examples {
         println!(rt, "{example}")?;

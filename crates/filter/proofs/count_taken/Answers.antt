@@ -13,12 +13,12 @@ use Rattle.filter.proofs.count_taken.Needs.{then-is-ok, else-is-ok}
 pub loop-line-again : need.loop-line-again
 loop-line-again c =
     elim (c .if-is-ok .came) [
-      then-is-ok w ↦
-        let more = one-more (c .args .lines .now) (c .loop-line .line-index) (c .loop-line .taken) _ true (omega arith) (c .loop-line .inv .0) (w .if-is-ok .ensures tt .value) in
-        (w .taken-is ∙ more, omega (arith, w .taken-is))
-    | else-is-ok w ↦
-        let more = one-more (c .args .lines .now) (c .loop-line .line-index) (c .loop-line .taken) _ false (omega arith) (c .loop-line .inv .0) (w .if-is-ok .ensures tt .value) in
-        (w .taken-is ∙ sym (add-zero (c .loop-line .taken)) ∙ more, omega (arith, w .taken-is))
+      | then-is-ok w ↦
+          let more = one-more (c .args .lines .now) (c .loop-line .line-index) (c .loop-line .taken) _ true (omega arith) (c .loop-line .inv .0) (w .if-is-ok .ensures tt .value) in
+          (w .taken-is ∙ more, omega (arith, w .taken-is))
+      | else-is-ok w ↦
+          let more = one-more (c .args .lines .now) (c .loop-line .line-index) (c .loop-line .taken) _ false (omega arith) (c .loop-line .inv .0) (w .if-is-ok .ensures tt .value) in
+          (w .taken-is ∙ sym (add-zero (c .loop-line .taken)) ∙ more, omega (arith, w .taken-is))
     ]
 
 pub returns : need.returns

@@ -18,7 +18,7 @@ returns c =
       short = omega arith;
       lines = lines;
       taken =
-        c .count-taken-taken .ensures ∙ ap (λ l. length (kept-by isOk l)) (c .deref .ensures .value)
-        ∙ told-taken (c .in-Continue-lines .lines .items) ∙ ap (λ l. length (kept-by isOk l)) lines;
+          c .count-taken-taken .ensures ∙ ap (λ l. length (kept-by isOk l)) (c .deref .ensures .value)
+          ∙ told-taken (c .in-Continue-lines .lines .items) ∙ ap (λ l. length (kept-by isOk l)) lines;
       whole = subst (λ n. Whole n input) two (c .read-all .ensures .whole);
     }

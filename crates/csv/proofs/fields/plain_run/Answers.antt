@@ -9,6 +9,7 @@ use Rattle.csv.proofs.fields.plain_run.Needs as need
 
 pub loop-rest-again : need.loop-rest-again
 loop-rest-again c =
-    let some : 0 < length (c .loop-rest .rest .now) = omega (arith, ltb-false) in
-    (sym (further-further (c .loop-rest .n) 1 _) ∙ ap (further (c .loop-rest .n)) (sym (plain-further (c .loop-rest .rest .now) some (c .if-not-is-plain .ensures tt))) ∙ c .loop-rest .inv .0,
-     simp (length-take, length-drop) (omega arith))
+    let some : 0 < length (c .loop-rest .rest .now) = omega (arith, ltb-false) in (
+      sym (further-further (c .loop-rest .n) 1 _) ∙ ap (further (c .loop-rest .n)) (sym (plain-further (c .loop-rest .rest .now) some (c .if-not-is-plain .ensures tt))) ∙ c .loop-rest .inv .0,
+      simp (length-take, length-drop) (omega arith),
+    )

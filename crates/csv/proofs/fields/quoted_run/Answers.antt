@@ -20,38 +20,46 @@ returns-then-stops-before c =
     let some : 0 < length (c .loop-rest .rest .now) = omega (arith, ltb-false) in
     let mark : getD (c .loop-rest .rest .now) 0 0 ≡ 34 = omega (arith, eqb-true) in
     let other : (getD (tail (c .loop-rest .rest .now)) 0 0 ≡ 34 → ⊥) =
-      λ e. elim (c .in-rest .came) [
-        in-rest·by·then-behind-lt1 w ↦ omega (arith, empty-first (tail (c .loop-rest .rest .now)) (omega (arith, ltb-true)))
+    λ e. elim (c .in-rest .came) [
+      | in-rest·by·then-behind-lt1 w ↦ omega (arith, empty-first (tail (c .loop-rest .rest .now)) (omega (arith, ltb-true)))
       | in-rest·by·else-behind-lt1·in-rest· w ↦ omega (arith, eqb-apart)
-      ] in
-    record { within = omega arith; value = ap Ends (sym (add-zero (c .loop-rest .n)))
-    ∙ sym (ap (further (c .loop-rest .n)) (quoted-ends (c .loop-rest .rest .now) true some mark other (c .if-stops-before .ensures tt)))
-    ∙ c .loop-rest .inv .0 }
+    ] in
+    record {
+      within = omega arith;
+      value = ap Ends (sym (add-zero (c .loop-rest .n)))
+          ∙ sym (ap (further (c .loop-rest .n)) (quoted-ends (c .loop-rest .rest .now) true some mark other (c .if-stops-before .ensures tt)))
+          ∙ c .loop-rest .inv .0;
+    }
 
 pub returns-else-stops-before : need.returns-else-stops-before
 returns-else-stops-before c =
     let some : 0 < length (c .loop-rest .rest .now) = omega (arith, ltb-false) in
     let mark : getD (c .loop-rest .rest .now) 0 0 ≡ 34 = omega (arith, eqb-true) in
     let other : (getD (tail (c .loop-rest .rest .now)) 0 0 ≡ 34 → ⊥) =
-      λ e. elim (c .in-rest .came) [
-        in-rest·by·then-behind-lt1 w ↦ omega (arith, empty-first (tail (c .loop-rest .rest .now)) (omega (arith, ltb-true)))
+    λ e. elim (c .in-rest .came) [
+      | in-rest·by·then-behind-lt1 w ↦ omega (arith, empty-first (tail (c .loop-rest .rest .now)) (omega (arith, ltb-true)))
       | in-rest·by·else-behind-lt1·in-rest· w ↦ omega (arith, eqb-apart)
-      ] in
-    record { within = omega arith; value = sym (ap (further (c .loop-rest .n)) (quoted-ends (c .loop-rest .rest .now) false some mark other (c .if-stops-before .ensures tt)))
-    ∙ c .loop-rest .inv .0 }
+    ] in
+    record {
+      within = omega arith;
+      value = sym (ap (further (c .loop-rest .n)) (quoted-ends (c .loop-rest .rest .now) false some mark other (c .if-stops-before .ensures tt)))
+          ∙ c .loop-rest .inv .0;
+    }
 
 pub loop-rest-again-in-34 : need.loop-rest-again-in-34
 loop-rest-again-in-34 c =
     let some : 0 < length (c .loop-rest .rest .now) = omega (arith, ltb-false) in
     let mark : getD (c .loop-rest .rest .now) 0 0 ≡ 34 = omega (arith, eqb-true) in
     let some2 : 0 < length (tail (c .loop-rest .rest .now)) = omega (arith, ltb-false) in
-    let mark2 : getD (tail (c .loop-rest .rest .now)) 0 0 ≡ 34 = omega (arith, eqb-true) in
-    (sym (further-further (c .loop-rest .n) 2 _) ∙ ap (further (c .loop-rest .n)) (sym (quoted-double (c .loop-rest .rest .now) some mark some2 mark2)) ∙ c .loop-rest .inv .0,
-     simp (length-take, length-drop) (omega arith))
+    let mark2 : getD (tail (c .loop-rest .rest .now)) 0 0 ≡ 34 = omega (arith, eqb-true) in (
+      sym (further-further (c .loop-rest .n) 2 _) ∙ ap (further (c .loop-rest .n)) (sym (quoted-double (c .loop-rest .rest .now) some mark some2 mark2)) ∙ c .loop-rest .inv .0,
+      simp (length-take, length-drop) (omega arith),
+    )
 
 pub loop-rest-again : need.loop-rest-again
 loop-rest-again c =
     let some : 0 < length (c .loop-rest .rest .now) = omega (arith, ltb-false) in
-    let other : (getD (c .loop-rest .rest .now) 0 0 ≡ 34 → ⊥) = omega (arith, eqb-apart) in
-    (sym (further-further (c .loop-rest .n) 1 _) ∙ ap (further (c .loop-rest .n)) (sym (quoted-further (c .loop-rest .rest .now) some other (c .if-not-is-inside .ensures tt))) ∙ c .loop-rest .inv .0,
-     simp (length-take, length-drop) (omega arith))
+    let other : (getD (c .loop-rest .rest .now) 0 0 ≡ 34 → ⊥) = omega (arith, eqb-apart) in (
+      sym (further-further (c .loop-rest .n) 1 _) ∙ ap (further (c .loop-rest .n)) (sym (quoted-further (c .loop-rest .rest .now) some other (c .if-not-is-inside .ensures tt))) ∙ c .loop-rest .inv .0,
+      simp (length-take, length-drop) (omega arith),
+    )

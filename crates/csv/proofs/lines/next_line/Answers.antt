@@ -36,10 +36,10 @@ returns-in-13 c =
 pub loop-rest-again : need.loop-rest-again
 loop-rest-again c =
     let later =
-      line-end-later (c .loop-rest .rest .now) (omega (arith, ltb-false)) (λ two cr nl.
-        elim (c .in-len1-up· .came) [
-          then-rest-lt2 w ↦ omega (arith, ltb-true)
-        | else-rest-lt2·in-13··in-rest· w ↦ omega (arith, eqb-apart)
-        | else-rest-lt2·in-rest· w ↦ omega (arith, eqb-apart)
-        ]) in
+    line-end-later (c .loop-rest .rest .now) (omega (arith, ltb-false)) (λ two cr nl.
+    elim (c .in-len1-up· .came) [
+      | then-rest-lt2 w ↦ omega (arith, ltb-true)
+      | else-rest-lt2·in-13··in-rest· w ↦ omega (arith, eqb-apart)
+      | else-rest-lt2·in-rest· w ↦ omega (arith, eqb-apart)
+    ]) in
     (later ∙ c .loop-rest .inv .0, simp (length-take, length-drop) (omega arith))

@@ -37,5 +37,5 @@ returns c =
     let front = take-map field-text i fields in
     let count : length (take i (map field-text fields)) ≡ i = length-take-le i (map field-text fields) (omega (arith, length-map fields field-text)) in
     let byte : c .loop-j .byte ≡ c .args .start .byte + length (with-commas (take i (map field-text fields))) =
-      c .loop-j .inv ∙ ap (λ k. c .args .start .byte + length (with-commas (map field-text (take k fields)))) here ∙ ap (λ l. c .args .start .byte + length (with-commas l)) (sym front) in
+    c .loop-j .inv ∙ ap (λ k. c .args .start .byte + length (with-commas (map field-text (take k fields)))) here ∙ ap (λ l. c .args .start .byte + length (with-commas l)) (sym front) in
     λ t. record { line = c .args .start .line; column = sym count t + 1; byte = byte t }

@@ -21,8 +21,8 @@ returns-then-line-wanted c =
     let wanted : c .count-wanted .result ≡ self .width .count = c .count-wanted .ensures in
     record {
       answer =
-        ap (λ k. Err (FieldCount (record { line = self .lines + 1; column = k + 1; byte = self .place }))) (c .min .ensures ∙ ap (λ n. Prim.Native.Nat.min (c .in-Continue-line .line .fields) (n + 2)) wanted)
-        ∙ another-count w (self .width .count) (self .lines + 1) (self .place) (λ e. c .if-line-wanted .taken (e ∙ ap (λ n. n + 2) (sym wanted)));
+          ap (λ k. Err (FieldCount (record { line = self .lines + 1; column = k + 1; byte = self .place }))) (c .min .ensures ∙ ap (λ n. Prim.Native.Nat.min (c .in-Continue-line .line .fields) (n + 2)) wanted)
+          ∙ another-count w (self .width .count) (self .lines + 1) (self .place) (λ e. c .if-line-wanted .taken (e ∙ ap (λ n. n + 2) (sym wanted)));
       behind = told .behind;
     }
 
@@ -41,10 +41,10 @@ report-of-requires c κs =
       count = length-take-le (c .count-wanted .result + 2 - 0) (c .lex .last .fields) (omega arith) ∙ omega arith;
       narrow = omega arith;
       fits =
-        let size = ap (λ l. length (with-commas l)) shown in
-        let fit = room xs _ w in
-        let long = length-drop (self .place) (self .text .now) in
-        omega arith;
+          let size = ap (λ l. length (with-commas l)) shown in
+          let fit = room xs _ w in
+          let long = length-drop (self .place) (self .text .now) in
+          omega arith;
     }
 
 pub returns : need.returns
@@ -60,9 +60,9 @@ returns c =
     let same : c .count-wanted .result + 2 - 2 ≡ self .width .count = omega arith in
     record {
       answer =
-        c .report-of .ensures
-        ∙ ap (λ l. of-columns (self .lines + 1) (self .place) l (columns (suc (c .count-wanted .result + 2 - 2)) l)) shown
-        ∙ ap (λ n. of-columns (self .lines + 1) (self .place) (fields-of (read-line xs)) (columns (suc n) (fields-of (read-line xs)))) same
-        ∙ right-count w (self .width .count) (self .lines + 1) (self .place) (omega arith);
+          c .report-of .ensures
+          ∙ ap (λ l. of-columns (self .lines + 1) (self .place) l (columns (suc (c .count-wanted .result + 2 - 2)) l)) shown
+          ∙ ap (λ n. of-columns (self .lines + 1) (self .place) (fields-of (read-line xs)) (columns (suc n) (fields-of (read-line xs)))) same
+          ∙ right-count w (self .width .count) (self .lines + 1) (self .place) (omega arith);
       behind = told .behind;
     }

@@ -1,0 +1,10 @@
+pub mod Ranges
+pub mod Meaning
+pub mod Joins
+pub mod IntervalFacts
+pub mod Interval
+pub mod Pair
+pub mod Boxes
+pub mod BoxLaws
+pub mod Refusals
+pub mod Examples

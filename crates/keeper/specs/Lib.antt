@@ -1,0 +1,4 @@
+pub mod Ranks
+pub mod Least
+pub mod Leasts
+pub mod Keeping
