@@ -1,0 +1,15 @@
+pub mod Examples
+pub mod Totals
+pub mod Numbers
+pub mod Parts
+pub mod Turns
+pub mod Refused
+pub mod Wholeness
+pub mod Fairness
+pub mod Around
+pub mod Boxes
+pub mod Ranks
+pub mod Determinism
+pub mod Choices
+pub mod Keeping
+pub mod Bounds

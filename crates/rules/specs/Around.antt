@@ -1,0 +1,35 @@
+-- What it is for a box to be the least around a list of records. Assumes nothing.
+use mathlib.Core.Path.{_≡_}
+use mathlib.Core.Bool.{true}
+use mathlib.Core.List.{List}
+use Prim.Native.Nat.{ℕ, _≤_}
+use lib.ListN.{length}
+use Rattle.std.specs.shelf.Lists.{All}
+use Rattle.domain.specs.Meaning.{Meaning}
+use Rattle.domain.specs.Boxes.{box-loss}
+use Rattle.domain.specs.BoxLaws.{Allowed, Admitted, InsideBox}
+use Rattle.domain.specs.BoxLaws as laws
+use Rattle.rules.specs.declared.Entry.{Entry}
+use Rattle.rules.specs.Clusters.{Box, values, box-of, cost, covers-entry}
+
+-- each known attribute's value is admitted
+abbrev pub Fit : Meaning → Entry → Type 0
+Fit m e = Admitted m (values e)
+
+abbrev pub Covers-all : Meaning → Box → List Entry → Type 0
+Covers-all m b es = All (λ e. covers-entry m b e ≡ true) es
+
+-- of the boxes of allowed ranges that cover the records, the one inside all others
+pub record Least-around (m : Meaning) (es : List Entry) (b : Box) : Type 0 where
+  pub is-box : laws.Box m b
+  pub covering : Covers-all m b es
+  pub least : (k : Box) → Allowed m k → Covers-all m k es → InsideBox m b k
+
+-- `box-of` is that box, no other is, and no other loses less
+pub record Boxes-records (m : Meaning) (es : List Entry) : Type 0 where
+  pub is-least : Least-around m es (box-of m es)
+  pub no-other : (b : Box) → Least-around m es b → b ≡ box-of m es
+  pub cheapest : (k : Box) → Allowed m k → Covers-all m k es → cost m es ≤ box-loss m k
+
+abbrev pub Boxes-stand : Type 0
+Boxes-stand = (m : Meaning) (es : List Entry) → 1 ≤ length es → All (Fit m) es → Boxes-records m es

@@ -1,0 +1,14 @@
+pub mod Choosing
+pub mod Clusters
+pub mod States
+pub mod Around
+pub mod Arrival
+pub mod Split
+pub mod Release
+pub mod Turn
+pub mod Refusals
+pub mod Runs
+pub mod Promise
+pub mod Laws
+pub mod Facts
+pub mod Examples

@@ -1,0 +1,6 @@
+mod Answering
+mod Heads
+mod Lawfully
+mod Numbers
+mod Steps
+mod Wholes

@@ -1,0 +1,10 @@
+pub mod Limits
+pub mod Rows
+pub mod Areas
+pub mod Refusals
+pub mod Headers
+pub mod Calls
+pub mod Shown
+pub mod Files
+pub mod Sheets
+pub mod Told
