@@ -1,9 +1,8 @@
 -- The box of admitted records is the least around them, and the only one.
-use mathlib.Core.Path.{_≡_, refl, sym, ap, _∙_, subst}
-use mathlib.Core.Bool.{Bool, true, false}
-use mathlib.Core.List.{List, [], _∷_, _++_}
-use mathlib.Core.Logic.{_⊎_, inl, inr, ⊎-elim}
-use Prim.Native.Nat.{ℕ, _+_, _<_, _≤_}
+use mathlib.Core.Path.{_≡_, refl, sym, _∙_}
+use mathlib.Core.List.{List, [], _∷_}
+use mathlib.Core.Logic.{⊎-elim}
+use Prim.Native.Nat.{ℕ, _≤_}
 use native.Mathlib.Omega.{arith}
 use native.Mathlib.Nat.{le-antisymm}
 use lib.ListN.{length}
@@ -13,13 +12,13 @@ use Rattle.std.proofs.shelf.Tests.{cases-bool}
 use Rattle.domain.specs.declared.range.Range.{Range}
 use Rattle.domain.specs.Ranges.{point}
 use Rattle.domain.specs.Meaning.{Meaning, known, places}
-use Rattle.domain.specs.Boxes.{range-at, point-box, join-boxes, box-loss, covers}
+use Rattle.domain.specs.Boxes.{range-at, point-box}
 use Rattle.domain.specs.BoxLaws.{Allowed, InsideBox}
 use Rattle.domain.specs.BoxLaws as laws
 use Rattle.domain.proofs.Joins as joins
 use Rattle.domain.proofs.Places.{covers-wider, point-box-least, widened-least, box-semilattice, loss-mono}
 use Rattle.rules.specs.declared.Entry.{Entry}
-use Rattle.rules.specs.Clusters.{Box, values, widened, box-of, covers-entry}
+use Rattle.rules.specs.Clusters.{Box, values, widened, box-of}
 use Rattle.rules.specs.Around.{Fit, Covers-all, Least-around, Boxes-records}
 
 inside-trans : (m : Meaning) (a b c : Box) → InsideBox m a b → InsideBox m b c → InsideBox m a c

@@ -1,43 +1,42 @@
 -- Bounds, orders and counts of every run.
-use mathlib.Core.Path.{_≡_, refl, sym, ap, _∙_, subst}
-use mathlib.Core.Bool.{Bool, true, false, not, cond, _||_}
+use mathlib.Core.Path.{_≡_, refl, sym, ap, subst}
+use mathlib.Core.Bool.{Bool, true, false, cond}
 use mathlib.Core.List.{List, [], _∷_, _++_, map}
 use mathlib.Core.Logic.{_⊎_, inl, inr, ⊎-elim}
-use Prim.Native.Nat.{ℕ, zero, suc, _+_, _-_, _*_, _<_, _≤_, min}
+use Prim.Native.Nat.{ℕ, zero, suc, _+_, _-_, _<_, _≤_}
 use native.Mathlib.Omega.{arith}
-use lib.Dec.{eqb, ltb, leb}
+use lib.Dec.{ltb}
 use lib.ListN.{length}
 use Rattle.std.specs.Iters.{counting}
-use Rattle.std.specs.shelf.Lists.{kept-by, All}
+use Rattle.std.specs.shelf.Lists.{All}
 use Rattle.std.proofs.shelf.Counted.{length-counting}
-use Rattle.std.proofs.shelf.Elements.{all-append, all-weaker, all-push}
-use Rattle.std.proofs.shelf.Tests.{ltb-true, eq-eqb, ne-eqb, cases-eq}
+use Rattle.std.proofs.shelf.Elements.{all-weaker, all-push}
+use Rattle.std.proofs.shelf.Tests.{ltb-true, eq-eqb, cases-eq}
 use Rattle.std.specs.declared.option.Option.{Option}
 use Rattle.std.specs.declared.option.Option.the-variants.{Some, None}
 use Rattle.domain.specs.Meaning.{Meaning}
 use Rattle.release.specs.declared.Settings.{Settings}
-use Rattle.release.specs.declared.Record.{Record}
 use Rattle.release.specs.declared.Line.{Line}
 use Rattle.rules.specs.declared.Entry.{Entry}
 use Rattle.rules.specs.declared.Held.{Held}
 use Rattle.rules.specs.declared.refusals.Refusal.{Refusal}
-use Rattle.rules.specs.Choosing.{In, total, chosen, minimal, different, listed}
+use Rattle.rules.specs.Choosing.{In, minimal, different, listed}
 use Rattle.rules.specs.Clusters.{entered, size, members, by-age, clusters, raise}
-use Rattle.rules.specs.States.{State, Boxes, deadline, is-due}
+use Rattle.rules.specs.States.{State, deadline}
 use Rattle.rules.specs.Around.{Fit}
 use Rattle.rules.specs.Arrival.{candidates, fits, fitting, smallest, taker, home, arrive}
 use Rattle.rules.specs.Refusals.{most-records}
-use Rattle.rules.specs.Runs.{Call, feeding, closing, Served, serve-due, drain, shut, feed, close, refusal, judged, step, History, Run, opened, then, lines-of}
+use Rattle.rules.specs.Runs.{Call, feeding, closing, serve-due, shut, close, refusal, judged, History, Run, opened, then, lines-of}
 use Rattle.rules.specs.Promise.{one, accepted, written}
-use Rattle.rules.specs.Facts.{By-position, suppressed-lines, is-suppressed, Bounded, Ordered, Counted, more-lines, Writing, Facts}
-use Rattle.rules.proofs.Totals.{true-false, mark, mark-le, one-le, total-append, total-map, total-in-order, length-in-order, length-total, in-total, in-all, all-in, kept-in, map-in, in-append, Picked, chosen-is}
-use Rattle.rules.proofs.Numbers.{times, in-times, in-listed, listed-in, times-listed, times-different, fewer, minimal-some}
-use Rattle.rules.proofs.Refused.{Lawful, feeds}
+use Rattle.rules.specs.Facts.{By-position, suppressed-lines, is-suppressed, more-lines, Facts}
+use Rattle.rules.proofs.Totals.{mark, total-append, total-map, length-in-order, length-total, in-all, all-in, kept-in, map-in, Picked, chosen-is, in-map}
+use Rattle.rules.proofs.Numbers.{times, in-listed, listed-in, times-different, fewer, minimal-some, once-listed}
+use Rattle.rules.proofs.Refused.{feeds}
 use Rattle.rules.proofs.Choices.{clusters-law}
-use Rattle.rules.proofs.Turns.{held-total, line-total, entry-total}
-use Rattle.rules.proofs.Wholeness.{Good, good, good-apart, Placed, placed, run-lawful, run-k, due, due-in, Moves, serve-moves, Drained, drained, arrived-apart, arrived-times}
-use Rattle.rules.proofs.Boxes.{Sound, sound, kept-boxes}
-use Rattle.rules.proofs.Keeping.{length-append, labels, Old-labels, Boxes-kept, Numbered, Turned, push-position, serve-turned, drain-turned}
+use Rattle.rules.proofs.Turns.{held-total}
+use Rattle.rules.proofs.Wholeness.{Good, good, good-apart, Placed, placed, run-lawful, run-k, due, due-in, serve-moves, drained, arrived-apart, arrived-times}
+use Rattle.rules.proofs.Boxes.{sound, kept-boxes}
+use Rattle.rules.proofs.Keeping.{length-append, labels, Old-labels, Boxes-kept, Numbered, Turned, push-position, serve-turned, drain-turned, labels-self}
 
 -- ---- open clusters
 
@@ -108,14 +107,14 @@ housed m g s e pos = go (smallest s (fitting m s e)) (smallest-is s (fitting m s
 arrived-open : (m : Meaning) (g : Settings) (s : State) (e : Entry) → 1 ≤ g .beta → length (clusters (s .held)) ≤ g .beta → length (clusters (arrive m g s e .held)) ≤ g .beta
 arrived-open m g s e pos l = ⊎-elim
     (λ i. let h = clusters-law (s .held) .some-held (home m g s e) i in
-    omega (arith, l, clusters-fewer (s .held) (arrive m g s e .held) (all-push (λ (z : Held). In (labels (s .held)) (z .label)) (s .held) x (Rattle.rules.proofs.Keeping.labels-self (s .held)) (subst (In (labels (s .held))) (h .2) (Rattle.rules.proofs.Totals.in-map (λ (z : Held). z .label) (s .held) (h .0) (h .1))))))
+    omega (arith, l, clusters-fewer (s .held) (arrive m g s e .held) (all-push (λ (z : Held). In (labels (s .held)) (z .label)) (s .held) x (labels-self (s .held)) (subst (In (labels (s .held))) (h .2) (in-map (λ (z : Held). z .label) (s .held) (h .0) (h .1))))))
     (λ r. omega (
       arith,
       r,
       clusters-length (arrive m g s e .held),
       clusters-length (s .held),
       different-more (home m g s e) (labels (s .held)) (labels (arrive m g s e .held))
-          (all-labels _ (arrive m g s e .held) (all-push (λ (z : Held). (z .label ≡ home m g s e) ⊎ In (labels (s .held)) (z .label)) (s .held) x (all-weaker _ _ (λ z i. inr i) (s .held) (Rattle.rules.proofs.Keeping.labels-self (s .held))) (inl refl))),
+          (all-labels _ (arrive m g s e .held) (all-push (λ (z : Held). (z .label ≡ home m g s e) ⊎ In (labels (s .held)) (z .label)) (s .held) x (all-weaker _ _ (λ z i. inr i) (s .held) (labels-self (s .held))) (inl refl))),
     ))
     (housed m g s e pos)
   where
@@ -149,7 +148,7 @@ few n d hs once a = omega (arith, fewer ps (counting (n + 1 - d) d) each, length
             let b = in-all (λ (h : Held). (n < h .entry .position + d) × (h .entry .position ≤ n)) hs (r .0) a (r .1) in
             let c = counting-times p (n + 1 - d) d (omega (arith, b .0, b .1, r .2)) (omega (arith, b .0, b .1, r .2)) in
             omega (arith, c, same p, once p)
-        go false e = omega (arith, same p, once p, Rattle.rules.proofs.Numbers.once-listed p (map (λ (h : Held). h .entry .position) hs) (omega (arith, same p, once p)), mark e)
+        go false e = omega (arith, same p, once p, once-listed p (map (λ (h : Held). h .entry .position) hs) (omega (arith, same p, once p)), mark e)
 
 -- ---- the invariant of a run
 

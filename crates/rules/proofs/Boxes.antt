@@ -1,21 +1,19 @@
 -- The second part of the promise, for every run: each box covers what is written under it and names a crowd.
 use mathlib.Core.Path.{_≡_, refl, sym, ap, _∙_, subst}
-use mathlib.Core.Bool.{Bool, true, false, not, cond, _||_, _&&_}
+use mathlib.Core.Bool.{true}
 use mathlib.Core.List.{List, [], _∷_, _++_, map}
 use mathlib.Core.Logic.{_⊎_, inl, inr, ⊎-elim}
-use Prim.Native.Nat.{ℕ, zero, suc, _+_, _-_, _*_, _<_, _≤_}
+use Prim.Native.Nat.{ℕ, zero, suc, _+_, _≤_}
 use native.Mathlib.Omega.{arith}
-use lib.Dec.{eqb, ltb, leb}
 use lib.ListN.{length, take}
-use Rattle.std.specs.shelf.Lists.{kept-by, All, folded}
-use Rattle.std.proofs.shelf.Elements.{all-append, all-weaker, all-take, all-push}
+use Rattle.std.specs.shelf.Lists.{All, folded}
+use Rattle.std.proofs.shelf.Elements.{all-weaker, all-take, all-push}
 use Rattle.std.proofs.shelf.Tests.{cond-both}
 use Rattle.std.specs.declared.option.Option.{Option}
 use Rattle.std.specs.declared.option.Option.the-variants.{Some, None}
 use Rattle.domain.specs.Meaning.{Meaning}
 use Rattle.domain.specs.Boxes.{box-loss}
 use Rattle.release.specs.declared.Settings.{Settings}
-use Rattle.release.specs.declared.Record.{Record}
 use Rattle.release.specs.declared.Line.{Line}
 use Rattle.release.specs.declared.Manner.{Manner}
 use Rattle.release.specs.declared.Manner.the-variants.{Released, Reused, Suppressed}
@@ -23,20 +21,20 @@ use Rattle.release.specs.Manners.{manner-number}
 use Rattle.rules.specs.declared.Entry.{Entry}
 use Rattle.rules.specs.declared.Held.{Held}
 use Rattle.rules.specs.declared.refusals.Refusal.{Refusal}
-use Rattle.rules.specs.Choosing.{In, head, in-order}
-use Rattle.rules.specs.Clusters.{Box, entered, size, records, members, no-box, box-of, covers-entry}
+use Rattle.rules.specs.Choosing.{In, head}
+use Rattle.rules.specs.Clusters.{Box, entered, size, members, no-box, box-of, covers-entry}
 use Rattle.rules.specs.States.{State, Kept, Boxes, crowd, below-mean, kept-rank, offered}
 use Rattle.rules.specs.Around.{Fit}
 use Rattle.rules.specs.Arrival.{arrive}
 use Rattle.rules.specs.Split.{parts}
 use Rattle.rules.specs.Release.{line, Output, release-part, release}
-use Rattle.rules.specs.Turn.{Rule, large, covered, outnumbered, too-few, joining, rule, grown, applied, turn}
-use Rattle.rules.specs.Runs.{Call, feeding, closing, Answer, wrote, refused, Served, serve, serve-due, drain, shut, feed, close, refusal, done, Exchange, Step, judged, History, Run, opened, then, lines-of}
-use Rattle.rules.specs.Promise.{Writes, Boxed, Release-line, Released-box, accepted, written}
-use Rattle.rules.proofs.Totals.{all-in, in-all, in-append, append-in, in-map, map-in, all-in-order, Picked, head-is}
+use Rattle.rules.specs.Turn.{Rule, large, covered, outnumbered, too-few, joining, rule, grown, applied}
+use Rattle.rules.specs.Runs.{Call, feeding, closing, serve, serve-due, drain, shut, close, refusal, judged, History, Run, opened, then}
+use Rattle.rules.specs.Promise.{Writes, Boxed, Released-box, accepted, written}
+use Rattle.rules.proofs.Totals.{all-in, in-all, in-append, append-in, in-map, map-in, all-in-order}
 use Rattle.rules.proofs.Refused.{feeds}
 use Rattle.rules.proofs.Parts.{parts-all, parts-large}
-use Rattle.rules.proofs.Turns.{Holds, applied-all, grown-large, grown-holds, members-all}
+use Rattle.rules.proofs.Turns.{Holds, grown-large, grown-holds, members-all}
 use Rattle.rules.proofs.Around.{box-covers}
 use Rattle.rules.proofs.Wholeness.{Good, good, run-k, due, due-in, next-in, serve-all, arrived-known}
 use Rattle.rules.proofs.Fairness.{Says, rule-says}

@@ -1,26 +1,24 @@
 -- The laws of the choices from lists.
 use mathlib.Core.Path.{_≡_, refl, sym, ap, _∙_, subst}
-use mathlib.Core.Bool.{Bool, true, false, not, cond, _||_}
+use mathlib.Core.Bool.{Bool, true, false, cond}
 use mathlib.Core.List.{List, [], _∷_, _++_, map}
-use mathlib.Core.Logic.{_⊎_, inl, inr, ⊎-elim}
-use Prim.Native.Nat.{ℕ, zero, suc, _+_, _<_, _≤_, min}
+use mathlib.Core.Logic.{inl, inr}
+use Prim.Native.Nat.{ℕ, _<_, _≤_}
 use native.Mathlib.Omega.{arith}
 use lib.Dec.{eqb, ltb}
 use lib.ListN.{length}
 use Rattle.std.specs.shelf.Lists.{All, kept-by}
-use Rattle.std.proofs.shelf.Elements.{all-weaker, all-kept-by}
-use Rattle.std.proofs.shelf.Tests.{eqb-true, eqb-false, eq-eqb, not-true}
-use Rattle.std.proofs.shelf.Ways.{tells}
+use Rattle.std.proofs.shelf.Tests.{eqb-true, eqb-false, eq-eqb, ltb-false, or-left}
 use Rattle.std.specs.declared.option.Option.{Option}
 use Rattle.std.specs.declared.option.Option.the-variants.{Some, None}
 use Rattle.rules.specs.declared.Held.{Held}
-use Rattle.rules.specs.Choosing.{In, total, head, lowest, minimal, least, different, listed, Rank, lower, in-order}
+use Rattle.rules.specs.Choosing.{In, head, lowest, minimal, least, different, listed, lower}
 use Rattle.domain.specs.Meaning.{Meaning}
 use Rattle.rules.specs.declared.Entry.{Entry}
-use Rattle.rules.specs.Clusters.{owner, owners, size, by-age, clusters}
-use Rattle.rules.specs.Split.{growth, joins-first, settle}
+use Rattle.rules.specs.Clusters.{by-age, clusters}
+use Rattle.rules.specs.Split.{growth, joins-first}
 use Rattle.rules.specs.Promise.{one}
-use Rattle.rules.specs.Laws.{Has-least, Minimal-law, First-least, Least-law, By-rank, Once, Different-law, Ascending, Clusters-law, Settles, Parts-law, Choices}
+use Rattle.rules.specs.Laws.{Has-least, Minimal-law, First-least, Least-law, By-rank, Once, Different-law, Ascending, Clusters-law, Settles, Choices}
 use Rattle.rules.proofs.Totals.{true-false, all-in, in-all, kept-in, in-kept, in-map, map-in, append-in, mark, total-in-order, one-self}
 use Rattle.rules.proofs.Numbers.{times, in-times, in-listed, listed-in, times-listed, times-different, different-once, lowest-le, lowest-some}
 use Rattle.rules.proofs.Ranks.{by-rank-in-order, lowest-ranked-law, keeping-law}
@@ -112,8 +110,8 @@ age-lower : (a b : ℕ) → lower (by-age b) (by-age a) ≡ false → (a ≡ b �
 age-lower a b e n = go (ltb b a) refl
   where
     go : (t : Bool) → ltb b a ≡ t → a < b
-    go true f = true-false (Rattle.std.proofs.shelf.Tests.or-left (ltb b a) _ f) e
-    go false f = let l = Rattle.std.proofs.shelf.Tests.ltb-false b a f in omega (arith, l, n)
+    go true f = true-false (or-left (ltb b a) _ f) e
+    go false f = let l = ltb-false b a f in omega (arith, l, n)
 
 ascending : (xs : List ℕ) → By-rank by-age xs → ((o : ℕ) → times o xs ≤ 1) → Ascending xs
 ascending [] h a = tt

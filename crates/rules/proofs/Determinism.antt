@@ -1,5 +1,5 @@
 -- The opening and the calls' arguments determine a run.
-use mathlib.Core.Path.{_≡_, refl, sym, ap, _∙_, subst}
+use mathlib.Core.Path.{_≡_, refl, sym, ap, _∙_}
 use mathlib.Core.List.{List, [], _∷_}
 use Rattle.std.specs.declared.option.Option.{Option}
 use Rattle.std.specs.declared.option.Option.the-variants.{Some, None}
@@ -8,7 +8,7 @@ use Rattle.release.specs.declared.Settings.{Settings}
 use Rattle.rules.specs.declared.refusals.Refusal.{Refusal}
 use Rattle.rules.specs.States.{State, start}
 use Rattle.rules.specs.Refusals.{open-refusal}
-use Rattle.rules.specs.Runs.{Call, Exchange, Step, judged, step, refusal, History, Run, opened, then, calls, Runs-on, Same-run, Determined}
+use Rattle.rules.specs.Runs.{Call, judged, step, refusal, History, Run, opened, then, calls, Determined}
 
 abbrev after : Meaning → Settings → List Call → State
 after m g [] = start

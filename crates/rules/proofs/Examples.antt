@@ -17,7 +17,7 @@ arrival-examples = record { raised-least = refl; equal-raise = refl; smaller = r
 
 turn-examples : Turn-examples
 unfolding point-box join-boxes box-loss covers
-turn-examples = record { two-larger = refl; one-larger = refl; counted-once = refl; narrow-again = refl; nearer = refl; measured-anew = refl; same-owner = refl; equally-near = refl }
+turn-examples = record { two-larger = refl; one-larger = refl; counted-once = refl; narrow-again = refl; nearer = refl; measured-anew = refl; own-loss = refl; same-owner = refl; equally-near = refl }
 
 kept-examples : Kept-examples
 unfolding point-box join-boxes box-loss covers

@@ -1,11 +1,10 @@
 -- The third part of the promise, for every run: each suppression is due.
-use mathlib.Core.Path.{_≡_, refl, sym, ap, _∙_, subst}
-use mathlib.Core.Bool.{Bool, true, false, not, cond, _||_, _&&_}
+use mathlib.Core.Path.{_≡_, refl, sym, ap, _∙_}
+use mathlib.Core.Bool.{Bool, true, false}
 use mathlib.Core.List.{List, [], _∷_, _++_, map}
-use mathlib.Core.Logic.{_⊎_, inl, inr, ⊎-elim}
-use Prim.Native.Nat.{ℕ, zero, suc, _+_, _-_, _*_, _<_, _≤_}
+use mathlib.Core.Logic.{inl, inr, ⊎-elim}
+use Prim.Native.Nat.{ℕ, zero, suc, _+_, _*_, _<_, _≤_}
 use native.Mathlib.Omega.{arith}
-use lib.Dec.{eqb, ltb, leb}
 use lib.ListN.{length}
 use Rattle.std.specs.shelf.Lists.{kept-by, All, folded}
 use Rattle.std.proofs.shelf.Elements.{all-append, all-map, all-weaker}
@@ -14,25 +13,25 @@ use Rattle.std.specs.declared.option.Option.{Option}
 use Rattle.std.specs.declared.option.Option.the-variants.{Some, None}
 use Rattle.domain.specs.Meaning.{Meaning}
 use Rattle.release.specs.declared.Settings.{Settings}
-use Rattle.release.specs.declared.Record.{Record}
 use Rattle.release.specs.declared.Line.{Line}
 use Rattle.release.specs.declared.Manner.{Manner}
 use Rattle.release.specs.declared.Manner.the-variants.{Released, Reused, Suppressed}
 use Rattle.rules.specs.declared.Entry.{Entry}
 use Rattle.rules.specs.declared.Held.{Held}
 use Rattle.rules.specs.declared.refusals.Refusal.{Refusal}
-use Rattle.rules.specs.Choosing.{In, head, chosen}
+use Rattle.rules.specs.Choosing.{In, head}
 use Rattle.rules.specs.Clusters.{entered, size, records, members, clusters, covers-entry, box-of}
 use Rattle.rules.specs.States.{State, Kept, crowd, deadline, is-due}
 use Rattle.rules.specs.Arrival.{arrive}
 use Rattle.rules.specs.Split.{parts}
-use Rattle.rules.specs.Release.{line, Output, release-part, Outcome, release}
+use Rattle.rules.specs.Release.{line, Output, release-part, release}
 use Rattle.rules.specs.Turn.{Rule, large, covered, outnumbered, too-few, joining, is-large, cover, larger, is-outnumbered, are-too-few, first-rule, rule, grown, applied, turn}
-use Rattle.rules.specs.Runs.{Call, feeding, closing, Answer, wrote, refused, Turn, Served, serve, serve-due, drain, shut, feed, close, refusal, done, Exchange, Step, judged, History, Run, opened, then, lines-of}
-use Rattle.rules.specs.Promise.{Writes, No-crowd, Due, Fair, accepted, taken, ending}
-use Rattle.rules.proofs.Totals.{Picked, chosen-is, head-is, in-append, append-in}
+use Rattle.rules.specs.Runs.{Call, feeding, closing, Turn, serve, serve-due, drain, shut, close, refusal, judged, History, Run, opened, then, lines-of}
+use Rattle.rules.specs.Promise.{Writes, No-crowd, Due, Fair, accepted}
+use Rattle.rules.proofs.Totals.{Picked, chosen-is, head-is, append-in}
 use Rattle.rules.proofs.Refused.{First, first-from}
-use Rattle.rules.proofs.Wholeness.{Good, good, due, due-first, next-in}
+use Rattle.rules.proofs.Wholeness.{good, due, due-first}
+use Rattle.release.specs.Manners.{manner-number}
 
 -- what the rule that fits says
 abbrev pub Says : Meaning → Settings → State → Held → Rule → Type 0
@@ -55,8 +54,8 @@ rule-says m g s t = go (is-large g s t) refl (cover m s t) (first-from q (s .box
     go false e None f false e′ true e″ = (leb-false _ _ e, f, ltb-true _ _ e″)
     go false e None f false e′ false e″ = ltb-false _ _ e″
 
-pub not-suppressed : (how : Manner) → how ≡ Suppressed → Rattle.release.specs.Manners.manner-number how ≡ 3
-not-suppressed how e = ap Rattle.release.specs.Manners.manner-number e
+pub not-suppressed : (how : Manner) → how ≡ Suppressed → manner-number how ≡ 3
+not-suppressed how e = ap manner-number e
 
 -- a suppression that its turn explains
 pub record Late (m : Meaning) (g : Settings) (ts : List Turn) (l : Line) : Type 0 where

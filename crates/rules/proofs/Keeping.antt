@@ -1,15 +1,14 @@
 -- What a turn leaves of bounds, orders and counts.
-use mathlib.Core.Path.{_≡_, refl, sym, ap, _∙_, subst}
+use mathlib.Core.Path.{_≡_, refl, ap, _∙_, subst}
 use mathlib.Core.Bool.{Bool, true, false, not, cond}
 use mathlib.Core.List.{List, [], _∷_, _++_, map}
-use mathlib.Core.Logic.{_⊎_, inl, inr, ⊎-elim}
-use Prim.Native.Nat.{ℕ, zero, suc, _+_, _-_, _*_, _<_, _≤_, min}
+use Prim.Native.Nat.{ℕ, zero, suc, _+_, _<_, _≤_}
 use native.Mathlib.Omega.{arith}
-use lib.Dec.{eqb, ltb, leb}
+use lib.Dec.{eqb}
 use lib.ListN.{length, take, length-take}
 use Rattle.std.specs.shelf.Lists.{kept-by, All, folded}
 use Rattle.std.proofs.shelf.Elements.{all-append, all-weaker, all-kept-by, all-map, all-push}
-use Rattle.std.proofs.shelf.Tests.{cond-both, eqb-true}
+use Rattle.std.proofs.shelf.Tests.{cond-both}
 use Rattle.std.specs.declared.option.Option.{Option}
 use Rattle.std.specs.declared.option.Option.the-variants.{Some, None}
 use Rattle.domain.specs.Meaning.{Meaning}
@@ -20,22 +19,22 @@ use Rattle.release.specs.declared.Manner.{Manner}
 use Rattle.release.specs.declared.Manner.the-variants.{Released, Reused, Suppressed}
 use Rattle.rules.specs.declared.Entry.{Entry}
 use Rattle.rules.specs.declared.Held.{Held}
-use Rattle.rules.specs.Choosing.{In, total, head, lowest-ranked, listed}
-use Rattle.rules.specs.Clusters.{Box, size, records, members, others, box-of, no-box}
+use Rattle.rules.specs.Choosing.{In, total, head}
+use Rattle.rules.specs.Clusters.{size, members, box-of}
 use Rattle.rules.specs.States.{State, Kept, Boxes, crowd, below-mean, kept-rank, offered}
 use Rattle.rules.specs.Split.{parts}
 use Rattle.rules.specs.Release.{line, Output, entered-mean, release-part, release}
-use Rattle.rules.specs.Turn.{Rule, large, covered, outnumbered, too-few, joining, without, moved, merged, take-over, grown, applied, rule, turn}
-use Rattle.rules.specs.Runs.{Served, serve, followed, drain}
+use Rattle.rules.specs.Turn.{Rule, large, covered, outnumbered, too-few, joining, moved, merged, grown, applied, rule}
+use Rattle.rules.specs.Runs.{serve, drain}
 use Rattle.rules.specs.Laws.{By-rank}
 use Rattle.rules.specs.Facts.{By-position, is-suppressed, suppressed-lines}
-use Rattle.rules.proofs.Totals.{true-false, total-append, total-map, length-total, length-in-order, in-all, all-in, in-map, map-in}
-use Rattle.rules.proofs.Numbers.{in-listed, listed-in}
+use Rattle.rules.proofs.Totals.{total-append, total-map, length-total, in-all, all-in, in-map, map-in}
 use Rattle.rules.proofs.Ranks.{by-rank-in-order, by-rank-take}
 use Rattle.rules.proofs.Parts.{parts-large}
 use Rattle.rules.proofs.Turns.{moved-entry, take-over-keeps, grown-large}
 use Rattle.rules.proofs.Fairness.{Says, rule-says}
 use Rattle.rules.proofs.Wholeness.{next-in}
+use Rattle.release.specs.Manners.{manner-number}
 
 pub length-append : {X : Type 0} (xs ys : List X) → length (xs ++ ys) ≡ length xs + length ys
 length-append xs ys = omega (arith, total-append (λ _. 1) xs ys, length-total (xs ++ ys), length-total xs, length-total ys)
@@ -190,8 +189,8 @@ release-turned m g s c k l =
       numbers = o .numbers (s .boxes .made) (omega arith) tt;
     }
 
-not-first : {P : Type 0} (how : Manner) → (manner′ : how ≡ Released) → (Rattle.release.specs.Manners.manner-number how ≡ 1 → ⊥) → P
-not-first how e f = absurd (f (ap Rattle.release.specs.Manners.manner-number e))
+not-first : {P : Type 0} (how : Manner) → (manner′ : how ≡ Released) → (manner-number how ≡ 1 → ⊥) → P
+not-first how e f = absurd (f (ap manner-number e))
 
 applied-turned : (m : Meaning) (g : Settings) (s : State) (t : Held) (r : Rule) → 1 ≤ g .k → In (s .held) t → Says m g s t r → Turned m g s (applied m g s t r .lines) (applied m g s t r .after)
 applied-turned m g s t large k i y = release-turned m g s (t .label) k y

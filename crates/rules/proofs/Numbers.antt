@@ -1,17 +1,17 @@
 -- Lists of numbers, as of owners and labels: how often each comes, the different ones, the least key.
-use mathlib.Core.Path.{_≡_, refl, sym, ap, _∙_, subst}
-use mathlib.Core.Bool.{Bool, true, false, not, cond, _||_, _&&_}
-use mathlib.Core.List.{List, [], _∷_, _++_, map}
-use mathlib.Core.Logic.{_⊎_, inl, inr, ⊎-elim}
-use Prim.Native.Nat.{ℕ, zero, suc, _+_, _-_, _<_, _≤_, min}
+use mathlib.Core.Path.{_≡_, refl, ap, _∙_}
+use mathlib.Core.Bool.{Bool, true, false, not, cond, _||_}
+use mathlib.Core.List.{List, [], _∷_}
+use mathlib.Core.Logic.{inl, inr, ⊎-elim}
+use Prim.Native.Nat.{ℕ, suc, _+_, _≤_}
 use native.Mathlib.Omega.{arith}
-use lib.Dec.{eqb, ltb, leb}
+use lib.Dec.{eqb}
 use lib.ListN.{length}
-use Rattle.std.specs.shelf.Lists.{kept-by, All}
-use Rattle.std.proofs.shelf.Tests.{eqb-true, eq-eqb, cases-bool, cases-lt}
+use Rattle.std.specs.shelf.Lists.{kept-by}
+use Rattle.std.proofs.shelf.Tests.{eqb-true, eq-eqb, cases-lt}
 use Rattle.rules.specs.Choosing.{In, total, lowest, minimal, different, listed}
 use Rattle.rules.specs.Promise.{one}
-use Rattle.rules.proofs.Totals.{true-false, mark, mark-le, one-self, one-le, eqb-sym, in-total, kept-le}
+use Rattle.rules.proofs.Totals.{true-false, mark, mark-le, one-self, one-le, eqb-sym, in-total, in-kept}
 
 -- how often o comes
 abbrev pub times : ℕ → List ℕ → ℕ
@@ -140,7 +140,7 @@ module _ {X : Type 0} where
   minimal-some key [] l = omega arith
   minimal-some key (x ∷ xs) l =
       let r = lowest-some key x xs in
-      let i : In (minimal key (x ∷ xs)) (r .0) = Rattle.rules.proofs.Totals.in-kept (λ y. eqb (key y) (lowest key (x ∷ xs))) (x ∷ xs) (r .0) (r .1) (eq-eqb _ _ (r .2)) in
+      let i : In (minimal key (x ∷ xs)) (r .0) = in-kept (λ y. eqb (key y) (lowest key (x ∷ xs))) (x ∷ xs) (r .0) (r .1) (eq-eqb _ _ (r .2)) in
       absurd (none (minimal key (x ∷ xs)) (r .0) l i)
     where
       none : (ys : List X) (y : X) → length ys ≤ 0 → In ys y → ⊥

@@ -1,25 +1,25 @@
 -- A split is a partition: each record of the cluster is in exactly one part, and each part names k owners at least.
 use mathlib.Core.Path.{_≡_, refl, sym, ap, _∙_, subst}
-use mathlib.Core.Bool.{Bool, true, false, not, cond, _||_, _&&_}
+use mathlib.Core.Bool.{Bool, true, false, not, cond, _||_}
 use mathlib.Core.List.{List, [], _∷_, _++_, map}
-use mathlib.Core.Logic.{_⊎_, inl, inr, ⊎-elim}
-use Prim.Native.Nat.{ℕ, zero, suc, _+_, _-_, _*_, _<_, _≤_, min}
+use mathlib.Core.Logic.{inl, ⊎-elim}
+use Prim.Native.Nat.{ℕ, zero, suc, _+_, _-_, _*_, _<_, _≤_}
 use native.Mathlib.Omega.{arith}
 use lib.Dec.{eqb, ltb, leb}
-use lib.ListN.{length, take, length-take}
+use lib.ListN.{length, length-take}
 use Rattle.std.specs.shelf.Lists.{kept-by, All, folded}
 use Rattle.std.specs.Options.{mapped}
 use Rattle.std.proofs.shelf.Elements.{all-kept-by}
-use Rattle.std.proofs.shelf.Tests.{eqb-true, eq-eqb, leb-true, leb-false, ltb-false, cases-bool, cond-both}
+use Rattle.std.proofs.shelf.Tests.{eqb-true, eq-eqb, leb-true, leb-false, ltb-false, cond-both}
 use Rattle.std.specs.declared.option.Option.{Option}
 use Rattle.std.specs.declared.option.Option.the-variants.{Some, None}
 use Rattle.domain.specs.Meaning.{Meaning}
 use Rattle.rules.specs.declared.Entry.{Entry}
 use Rattle.rules.specs.Choosing.{In, total, chosen, lowest, different, listed, in-order, lowest-ranked}
 use Rattle.rules.specs.Clusters.{owner, owners, size}
-use Rattle.rules.specs.Split.{part, outside, nearness, around, next-part, Cut, cut-on, cut, growth, joins-first, settle, split, parts}
+use Rattle.rules.specs.Split.{part, outside, nearness, around, next-part, cut-on, cut, growth, joins-first, settle, split, parts}
 use Rattle.rules.specs.Promise.{one}
-use Rattle.rules.proofs.Totals.{true-false, mark, mark-le, one-self, one-le, eqb-sym, total-push, total-same, total-kept, kept-both, total-lowest-ranked, length-in-order, length-total, total-map, marked-once, in-total, in-kept, in-map, all-in, Picked, chosen-is}
+use Rattle.rules.proofs.Totals.{true-false, mark, eqb-sym, total-push, total-same, total-kept, kept-both, total-lowest-ranked, length-in-order, length-total, marked-once, in-total, in-kept, in-map, all-in, Picked, chosen-is}
 use Rattle.rules.proofs.Numbers.{times, listed-le, once-listed, times-listed, in-times, in-listed, times-kept, times-different, different-once, fewer, lowest-some}
 
 -- how often an owner is in the parts

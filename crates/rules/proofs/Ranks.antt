@@ -1,21 +1,20 @@
 -- Lists in order of rank, and one item more among them.
-use mathlib.Core.Path.{_≡_, refl, sym, ap, _∙_, subst}
+use mathlib.Core.Path.{_≡_, refl, sym, ap, _∙_}
 use mathlib.Core.Bool.{Bool, true, false, not, cond}
 use mathlib.Core.List.{List, [], _∷_, _++_}
-use mathlib.Core.Logic.{_⊎_, inl, inr, ⊎-elim}
-use Prim.Native.Nat.{ℕ, zero, suc, _+_, _≤_, min}
+use Prim.Native.Nat.{ℕ, zero, suc, _+_, min}
 use native.Mathlib.Omega.{arith}
-use lib.ListN.{length, take, drop, length-take}
+use lib.ListN.{take, drop, length-take}
 use Rattle.std.specs.shelf.Lists.{All, kept-by, folded}
 use Rattle.std.proofs.shelf.Lists.{take-take, append-nil}
 use Rattle.std.proofs.shelf.Elements.{all-append, all-weaker, all-kept-by, all-take, all-drop, kept-by-passes}
-use Rattle.std.proofs.shelf.Tests.{not-true, cases-bool, cond-true, cond-false}
+use Rattle.std.proofs.shelf.Tests.{not-true, cond-false}
 use Rattle.std.proofs.shelf.Ways.{tells}
 use Rattle.domain.specs.Meaning.{Meaning}
-use Rattle.rules.specs.Choosing.{total, Rank, lower, among, in-order, lowest-ranked, beyond}
+use Rattle.rules.specs.Choosing.{total, Rank, lower, among, in-order, lowest-ranked}
 use Rattle.rules.specs.States.{Kept, kept-rank, offered}
 use Rattle.rules.specs.Laws.{None-lower, By-rank, Lowest-ranked-law, Keeping-law}
-use Rattle.rules.proofs.Totals.{total-append, total-in-order, length-in-order}
+use Rattle.rules.proofs.Totals.{total-in-order, length-in-order, true-false}
 
 -- ---- ranks are in a total order
 
@@ -133,11 +132,11 @@ module _ {X : Type 0} (rank : X → Rank) where
       go : (s : Bool) → lower (rank b) (rank y) ≡ s → (t : Bool) → lower (rank y) (rank x) ≡ t → (u : Bool) → lower (rank b) (rank x) ≡ u → front x (back b ys) ≡ back b (front x ys)
           → front x (cond s (b ∷ y ∷ ys) (y ∷ back b ys)) ≡ back b (cond t (y ∷ front x ys) (x ∷ y ∷ ys))
       go true e true f true k ih = new true k (y ∷ ys) ∙ ap (λ l. b ∷ l) (ahead true f ys) ∙ sym (at true e (front x ys))
-      go true e true f false k ih = Rattle.rules.proofs.Totals.true-false (lower-chain (rank b) (rank y) (rank x) e f) k
+      go true e true f false k ih = true-false (lower-chain (rank b) (rank y) (rank x) e f) k
       go true e false f true k ih = new true k (y ∷ ys) ∙ ap (λ l. b ∷ l) (ahead false f ys) ∙ sym (old true k (y ∷ ys))
       go true e false f false k ih = new false k (y ∷ ys) ∙ ap (λ l. x ∷ l) (sym (at true e ys)) ∙ sym (old false k (y ∷ ys))
       go false e true f u k ih = ahead true f (back b ys) ∙ ap (λ l. y ∷ l) ih ∙ sym (at false e (front x ys))
-      go false e false f true k ih = Rattle.rules.proofs.Totals.true-false k (chain (rank x) (rank y) (rank b) f e)
+      go false e false f true k ih = true-false k (chain (rank x) (rank y) (rank b) f e)
       go false e false f false k ih = ahead false f (back b ys) ∙ ap (λ l. x ∷ l) (sym (at false e ys)) ∙ sym (old false k (y ∷ ys))
 
   in-order-push : (b : X) (xs : List X) → in-order rank (xs ++ b ∷ []) ≡ back b (in-order rank xs)

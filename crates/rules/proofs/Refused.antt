@@ -1,9 +1,8 @@
 -- What a call that is not refused tells, and what the first that passes is.
-use mathlib.Core.Path.{_≡_, refl, sym, ap, _∙_, subst}
+use mathlib.Core.Path.{_≡_, refl, subst}
 use mathlib.Core.Bool.{Bool, true, false, not, cond, _&&_}
 use mathlib.Core.List.{List, [], _∷_, map}
-use mathlib.Core.Logic.{inl, inr}
-use Prim.Native.Nat.{ℕ, _+_, _<_, _≤_}
+use Prim.Native.Nat.{ℕ, _+_, _<_, _≤_, suc, zero}
 use native.Mathlib.Omega.{arith}
 use lib.Dec.{eqb, ltb, leb}
 use lib.ListN.{length}
@@ -14,20 +13,17 @@ use Rattle.std.proofs.shelf.Tests.{and-parts, not-false, leb-true, leb-false, l
 use Rattle.std.specs.declared.option.Option.{Option}
 use Rattle.std.specs.declared.option.Option.the-variants.{Some, None}
 use Rattle.domain.specs.Ranges.{span, within}
-use Rattle.domain.specs.Meaning.{Meaning, places, known, width-of, admits-of}
+use Rattle.domain.specs.Meaning.{Meaning, places, known, admits-of}
 use Rattle.domain.specs.Boxes.{value-at, attributes, known-count}
 use Rattle.domain.specs.BoxLaws.{Admitted}
 use Rattle.domain.proofs.Places.{known-tells}
 use Rattle.release.specs.declared.Settings.{Settings}
 use Rattle.release.specs.declared.Record.{Record}
-use Rattle.rules.specs.declared.refusals.Refusal.{Refusal}
 use Rattle.rules.specs.declared.refusals.Refusal.the-variants.{Closed, Full, ShortList, Unfit}
-use Rattle.rules.specs.declared.refusals.OpenRefusal.{OpenRefusal}
 use Rattle.rules.specs.declared.refusals.OpenRefusal.the-variants.{Width, Limits}
-use Rattle.rules.specs.Choosing.{In, head}
+use Rattle.rules.specs.Choosing.{In}
 use Rattle.rules.specs.States.{State}
 use Rattle.rules.specs.Refusals.{if-so, first-of, narrow, within-limits, open-refusal, most-records, closed-already, is-full, too-short, faults, unfit, feed-refusal, close-refusal}
-use Rattle.rules.specs.Runs.{Call, feeding, closing, refusal}
 use Rattle.rules.proofs.Totals.{Picked, kept-in}
 
 -- ---- the first that passes
@@ -116,8 +112,8 @@ all-fit m vs (i ∷ is) e =
     (not-false _ (if-none (not (admits-of m i (value-at vs i))) (i + 2) (a .0)), all-fit m vs is (a .1))
 
 all-counting : (P : ℕ → Type 0) (a n : ℕ) → All P (counting a n) → (i : ℕ) → a ≤ i → i < a + n → P i
-all-counting P a Prim.Native.Nat.zero h i l u = absurd (omega (arith, l, u))
-all-counting P a (Prim.Native.Nat.suc n) h i l u = go (leb (a + 1) i) refl (all-counting P (a + 1) n (h .1) i)
+all-counting P a zero h i l u = absurd (omega (arith, l, u))
+all-counting P a (suc n) h i l u = go (leb (a + 1) i) refl (all-counting P (a + 1) n (h .1) i)
   where
     go : (b : Bool) → leb (a + 1) i ≡ b → (a + 1 ≤ i → i < a + 1 + n → P i) → P i
     go true e ih = ih (leb-true (a + 1) i e) (omega (arith, u))

@@ -1,18 +1,19 @@
 -- Totals over lists, and what stands in them.
 use mathlib.Core.Path.{_≡_, refl, sym, ap, _∙_, subst}
-use mathlib.Core.Bool.{Bool, true, false, not, cond, _||_, _&&_}
+use mathlib.Core.Bool.{Bool, true, false, not, cond}
 use mathlib.Core.List.{List, [], _∷_, _++_, map}
 use mathlib.Core.Logic.{_⊎_, inl, inr, ⊎-elim}
-use Prim.Native.Nat.{ℕ, zero, suc, _+_, _-_, _<_, _≤_}
+use Prim.Native.Nat.{ℕ, zero, suc, _+_, _≤_}
 use native.Mathlib.Omega.{arith}
-use lib.Dec.{eqb, ltb, leb}
-use lib.ListN.{length, take, drop}
+use lib.Dec.{eqb}
+use lib.ListN.{length, take}
 use Rattle.std.specs.shelf.Lists.{kept-by, All}
 use Rattle.std.proofs.shelf.Tests.{eqb-true, eq-eqb, ne-eqb, cases-bool, both-ways}
 use Rattle.std.specs.declared.option.Option.{Option}
 use Rattle.std.specs.declared.option.Option.the-variants.{Some, None}
-use Rattle.rules.specs.Choosing.{In, total, head, chosen, Rank, lower, among, in-order, lowest-ranked}
+use Rattle.rules.specs.Choosing.{In, total, head, chosen, Rank, lower, in-order, lowest-ranked}
 use Rattle.rules.specs.Promise.{one}
+use Rattle.std.proofs.shelf.Elements.{all-append, all-kept-by}
 
 pub true-false : {X : Type 0} {b : Bool} → b ≡ true → b ≡ false → X
 true-false {b = b} t f = absurd (both-ways b f t)
@@ -168,8 +169,8 @@ module _ {X : Type 0} where
   all-in-order P rank (x ∷ xs) a =
       let ih = all-in-order P rank xs (a .1) in
       let q : X → Bool = λ y. lower (rank y) (rank x) in
-      Rattle.std.proofs.shelf.Elements.all-append P (kept-by q (in-order rank xs)) (x ∷ kept-by (λ y. not (q y)) (in-order rank xs))
-      (Rattle.std.proofs.shelf.Elements.all-kept-by q P (in-order rank xs) ih) (a .0, Rattle.std.proofs.shelf.Elements.all-kept-by (λ y. not (q y)) P (in-order rank xs) ih)
+      all-append P (kept-by q (in-order rank xs)) (x ∷ kept-by (λ y. not (q y)) (in-order rank xs))
+      (all-kept-by q P (in-order rank xs) ih) (a .0, all-kept-by (λ y. not (q y)) P (in-order rank xs) ih)
 
 pub total-map : {X Y : Type 0} (f : Y → ℕ) (k : X → Y) (xs : List X) → total f (map k xs) ≡ total (λ x. f (k x)) xs
 total-map f k [] = refl

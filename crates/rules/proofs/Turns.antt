@@ -1,15 +1,14 @@
 -- What a turn does to the held records: each stays or is written, once, and its own is written.
 use mathlib.Core.Path.{_≡_, refl, sym, ap, _∙_, subst}
-use mathlib.Core.Bool.{Bool, true, false, not, cond, _||_, _&&_}
-use mathlib.Core.List.{List, [], _∷_, _++_, map}
-use mathlib.Core.Logic.{_⊎_, inl, inr, ⊎-elim}
-use Prim.Native.Nat.{ℕ, zero, suc, _+_, _-_, _*_, _<_, _≤_}
+use mathlib.Core.Bool.{Bool, true, false, not, cond}
+use mathlib.Core.List.{List, [], _∷_, map}
+use Prim.Native.Nat.{ℕ, zero, suc, _+_, _≤_}
 use native.Mathlib.Omega.{arith}
-use lib.Dec.{eqb, ltb, leb}
-use lib.ListN.{length, take}
+use lib.Dec.{eqb, leb}
+use lib.ListN.{length}
 use Rattle.std.specs.shelf.Lists.{kept-by, All, folded}
 use Rattle.std.proofs.shelf.Elements.{all-kept-by, all-append, all-map}
-use Rattle.std.proofs.shelf.Tests.{eqb-true, eq-eqb, leb-true, leb-false, cond-both, cond-true}
+use Rattle.std.proofs.shelf.Tests.{eqb-true, eq-eqb, leb-true, cond-both, cond-true}
 use Rattle.std.specs.declared.option.Option.{Option}
 use Rattle.std.specs.declared.option.Option.the-variants.{Some, None}
 use Rattle.domain.specs.Meaning.{Meaning}
@@ -19,15 +18,15 @@ use Rattle.release.specs.declared.Manner.{Manner}
 use Rattle.release.specs.declared.Manner.the-variants.{Released, Reused, Suppressed}
 use Rattle.rules.specs.declared.Entry.{Entry}
 use Rattle.rules.specs.declared.Held.{Held}
-use Rattle.rules.specs.Choosing.{In, total, head, minimal, least, different, in-order}
+use Rattle.rules.specs.Choosing.{In, total, head, minimal, different}
 use Rattle.rules.specs.Clusters.{Box, size, records, members, others, by-age, clusters, box-of, no-box, raise}
-use Rattle.rules.specs.States.{State, Kept, Boxes, crowd}
+use Rattle.rules.specs.States.{State, crowd}
 use Rattle.rules.specs.Split.{parts}
-use Rattle.rules.specs.Release.{line, Output, release-part, Outcome, release}
-use Rattle.rules.specs.Turn.{Rule, large, covered, outnumbered, too-few, joining, without, reused, suppress, easiest, moved, merged, if-any, take-over, grown, applied}
+use Rattle.rules.specs.Release.{line, Output, release-part, release}
+use Rattle.rules.specs.Turn.{Rule, large, covered, outnumbered, too-few, joining, without, easiest, moved, merged, if-any, take-over, grown, applied}
 use Rattle.rules.specs.Promise.{one, held-times, line-times, Writes}
-use Rattle.rules.proofs.Totals.{true-false, mark, one-self, total-append, total-same, total-le, total-kept, kept-both, kept-le, total-map, total-in-order, length-in-order, length-total, marked-once, in-total, all-in, in-all, Picked, head-is}
-use Rattle.rules.proofs.Numbers.{times, in-times, listed-le, times-different, minimal-some}
+use Rattle.rules.proofs.Totals.{mark, one-self, total-append, total-same, total-le, total-kept, kept-both, kept-le, total-map, total-in-order, length-in-order, length-total, marked-once, in-total, in-all, Picked, head-is, kept-in}
+use Rattle.rules.proofs.Numbers.{in-times, listed-le, times-different, minimal-some}
 use Rattle.rules.proofs.Parts.{totals, parts-total, parts-all}
 
 -- by positions
@@ -152,9 +151,6 @@ merged-others c d (h ∷ hs) = go (eqb (h .label) d) refl (eqb (h .label) c) ref
     go false e true f ih = omega (arith, ih, at (eqb (h .label) c) true h f)
     go false e false f ih = omega (arith, ih, at (eqb (h .label) c) false h f, mark e)
 
-labels : List Held → List ℕ
-labels hs = map (λ h. h .label) hs
-
 pub cluster-in : (d : ℕ) (hs : List Held) → In (clusters hs) d → 1 ≤ under d hs
 cluster-in d hs i =
     omega (arith, in-times d (clusters hs) i, total-in-order (one d) by-age (different (map (λ (h : Held). h .label) hs)), times-different d (map (λ (h : Held). h .label) hs), listed-le d (map (λ (h : Held). h .label) hs), total-map (one d) (λ (h : Held). h .label) hs)
@@ -178,7 +174,7 @@ easiest-is m c hs = go (head (minimal key open′)) (head-is (minimal key open�
     open′ = clusters (others c hs)
 
     go : (o : Option ℕ) → Picked (minimal (λ d. raise m (members c hs) (members d hs)) (clusters (others c hs))) o → Easy c hs o
-    go (Some d) i = cluster-in d (others c hs) (Rattle.rules.proofs.Totals.kept-in _ (clusters (others c hs)) d i .0)
+    go (Some d) i = cluster-in d (others c hs) (kept-in _ (clusters (others c hs)) d i .0)
     go None l = no-clusters (others c hs) (minimal-some _ (clusters (others c hs)) l)
 
 pub take-over-large : (m : Meaning) (k n c : ℕ) (hs : List Held) → k ≤ size (records hs) → length (others c hs) ≤ n → k ≤ size (members c (take-over m k n c hs))

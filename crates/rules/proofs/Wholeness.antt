@@ -1,14 +1,14 @@
 -- The first part of the promise, for every run: nothing is lost, nothing doubled, nothing late.
 use mathlib.Core.Path.{_≡_, refl, sym, ap, _∙_, subst}
-use mathlib.Core.Bool.{Bool, true, false, not, cond, _||_, _&&_}
-use mathlib.Core.List.{List, [], _∷_, _++_, map}
-use mathlib.Core.Logic.{_⊎_, inl, inr, ⊎-elim}
-use Prim.Native.Nat.{ℕ, zero, suc, _+_, _-_, _*_, _<_, _≤_}
+use mathlib.Core.Bool.{Bool, true, false, cond}
+use mathlib.Core.List.{List, [], _∷_}
+use mathlib.Core.Logic.{inl, inr}
+use Prim.Native.Nat.{ℕ, zero, suc, _+_, _<_, _≤_}
 use native.Mathlib.Omega.{arith}
-use lib.Dec.{eqb, ltb, leb}
-use lib.ListN.{length, take}
-use Rattle.std.specs.shelf.Lists.{kept-by, All, folded}
-use Rattle.std.proofs.shelf.Elements.{all-kept-by, all-append, all-map, all-weaker, all-push}
+use lib.Dec.{eqb, leb}
+use lib.ListN.{length}
+use Rattle.std.specs.shelf.Lists.{kept-by, All}
+use Rattle.std.proofs.shelf.Elements.{all-append, all-weaker, all-push}
 use Rattle.std.proofs.shelf.Tests.{eqb-true, eqb-false, eq-eqb, ne-eqb, leb-true, leb-false}
 use Rattle.std.specs.declared.option.Option.{Option}
 use Rattle.std.specs.declared.option.Option.the-variants.{Some, None}
@@ -19,15 +19,15 @@ use Rattle.release.specs.declared.Line.{Line}
 use Rattle.rules.specs.declared.Entry.{Entry}
 use Rattle.rules.specs.declared.Held.{Held}
 use Rattle.rules.specs.declared.refusals.Refusal.{Refusal}
-use Rattle.rules.specs.Choosing.{In, total, head}
+use Rattle.rules.specs.Choosing.{In, head}
 use Rattle.rules.specs.Clusters.{entered}
-use Rattle.rules.specs.States.{State, start, deadline, is-due}
+use Rattle.rules.specs.States.{State, deadline, is-due}
 use Rattle.rules.specs.Arrival.{arrive, home}
-use Rattle.rules.specs.Turn.{rule, applied, turn}
-use Rattle.rules.specs.Runs.{Call, feeding, closing, Answer, wrote, refused, Turn, Served, serve, followed, serve-due, drain, shut, feed, close, refusal, done, Exchange, Step, judged, step, History, Run, opened, then, lines-of}
-use Rattle.rules.specs.Promise.{one, held-times, line-times, Writes, Written, Whole, accepted, written, is-closed, taken, ending, more-accepted}
-use Rattle.rules.proofs.Totals.{true-false, mark, total-append, total-push, total-le, length-total, one-le, in-total, all-in, in-all, Picked, head-is}
-use Rattle.rules.proofs.Refused.{First, first-from, Lawful, lawful, Feeds, feeds, closes}
+use Rattle.rules.specs.Turn.{rule, turn}
+use Rattle.rules.specs.Runs.{Call, feeding, closing, wrote, Served, serve, serve-due, drain, shut, close, refusal, judged, History, Run, opened, then}
+use Rattle.rules.specs.Promise.{one, held-times, line-times, Written, Whole, accepted, written, is-closed, taken, more-accepted}
+use Rattle.rules.proofs.Totals.{true-false, mark, total-append, total-push, total-le, length-total, one-le, in-total, all-in, in-all, Picked, head-is, kept-in}
+use Rattle.rules.proofs.Refused.{First, first-from, Lawful, lawful, feeds, some-none}
 use Rattle.rules.proofs.Turns.{held-total, line-total, entry-total, Of, Holds, applied-total, applied-own, applied-same, applied-all}
 
 -- each position at most once
@@ -60,7 +60,7 @@ some-same {X} {x} e = ap un e
 
 pub picked-in : {X : Type 0} (xs : List X) (o : Option X) → Picked xs o → (x : X) → o ≡ Some x → In xs x
 picked-in xs (Some y) i x e = subst (In xs) (some-same e) i
-picked-in xs None i x e = absurd (Rattle.rules.proofs.Refused.some-none (sym e))
+picked-in xs None i x e = absurd (some-none (sym e))
 
 pub next-in : (s : State) (t : Held) → head (s .held) ≡ Some t → In (s .held) t
 next-in s t e = picked-in (s .held) (head (s .held)) (head-is (s .held)) t e
@@ -73,7 +73,7 @@ pub due-first : (g : Settings) (s : State) → First (is-due g s) (s .held) (due
 due-first g s = first-from (is-due g s) (s .held) (due g s) (head-is (kept-by (is-due g s) (s .held)))
 
 pub due-in : (g : Settings) (s : State) (t : Held) → due g s ≡ Some t → In (s .held) t
-due-in g s t e = Rattle.rules.proofs.Totals.kept-in (is-due g s) (s .held) t (picked-in _ (due g s) (head-is (kept-by (is-due g s) (s .held))) t e) .0
+due-in g s t e = kept-in (is-due g s) (s .held) t (picked-in _ (due g s) (head-is (kept-by (is-due g s) (s .held))) t e) .0
 
 -- none that is due stays
 serve-soon : (m : Meaning) (g : Settings) (s : State) → 1 ≤ g .k → Apart (s .held) → (o : Option Held) → First (is-due g s) (s .held) o

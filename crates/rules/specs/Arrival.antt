@@ -1,5 +1,5 @@
 -- A record arrives: which cluster takes it. Assumes nothing.
-use mathlib.Core.Bool.{Bool, true, false, cond}
+use mathlib.Core.Bool.{Bool, true, false}
 use mathlib.Core.List.{List, [], _∷_, _++_}
 use Prim.Native.Nat.{ℕ, _+_}
 use lib.Dec.{ltb}
@@ -10,7 +10,6 @@ use Rattle.std.specs.declared.option.Option.the-variants.{Some, None}
 use Rattle.domain.specs.Meaning.{Meaning}
 use Rattle.release.specs.declared.Settings.{Settings}
 use Rattle.rules.specs.declared.Entry.{Entry}
-use Rattle.rules.specs.declared.Held.{Held}
 use Rattle.rules.specs.Choosing.{chosen, minimal}
 use Rattle.rules.specs.Clusters.{size, members, clusters, cost, raise}
 use Rattle.rules.specs.States.{State, at-most-mean}

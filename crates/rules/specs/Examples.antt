@@ -1,11 +1,10 @@
 -- Examples by hand, of the definitions, and readings that they rule out. Assumes nothing.
 use mathlib.Core.Path.{_≡_}
 use mathlib.Core.Bool.{Bool, true, false}
-use mathlib.Core.List.{List, [], _∷_, _++_, map, reverse}
+use mathlib.Core.List.{List, [], _∷_, _++_, map}
 use Prim.Native.Nat.{ℕ}
 use lib.IntN.{ℤ, pos, negsuc}
 use lib.ListN.{take}
-use Rattle.std.specs.declared.option.Option.{Option}
 use Rattle.std.specs.declared.option.Option.the-variants.{Some, None}
 use Rattle.domain.specs.declared.range.Range.{Range}
 use Rattle.domain.specs.Ranges.{span, point}
@@ -20,18 +19,17 @@ use Rattle.release.specs.declared.Line.{Line}
 use Rattle.release.specs.declared.Manner.{Manner}
 use Rattle.release.specs.declared.Manner.the-variants.{Released, Reused, Suppressed}
 use Rattle.rules.specs.declared.refusals.OpenRefusal.the-variants.{Width, Limits}
-use Rattle.rules.specs.declared.refusals.Refusal.{Refusal}
 use Rattle.rules.specs.declared.refusals.Refusal.the-variants.{Closed, Full, ShortList, Unfit}
 use Rattle.rules.specs.declared.Entry.{Entry}
 use Rattle.rules.specs.declared.Held.{Held}
-use Rattle.rules.specs.Clusters.{Box, entered, size, records, members, clusters, box-of, raise, cost}
+use Rattle.rules.specs.Clusters.{Box, entered, members, box-of, raise}
 use Rattle.rules.specs.States.{State, Kept, Boxes, start, holding, at-most-mean, below-mean, offered}
 use Rattle.rules.specs.Arrival.{candidates, home}
 use Rattle.rules.specs.Split.{parts}
 use Rattle.rules.specs.Release.{entered-mean}
-use Rattle.rules.specs.Turn.{Rule, large, covered, outnumbered, too-few, joining, rule, turn, take-over, suppress}
+use Rattle.rules.specs.Turn.{large, covered, outnumbered, too-few, joining, rule, take-over, suppress}
 use Rattle.rules.specs.Refusals.{open-refusal, feed-refusal}
-use Rattle.rules.specs.Runs.{Call, feeding, closing, Answer, wrote, refused, lines-of, Exchange, Step, step}
+use Rattle.rules.specs.Runs.{Call, feeding, closing, Answer, wrote, refused, lines-of, Exchange, step}
 
 -- ---- words
 
@@ -166,6 +164,8 @@ pub record Turn-examples : Type 0 where
   pub nearer : take-over machines 2 3 1 (inside 1 (at 1 1 50) ∷ inside 2 (at 2 2 90) ∷ inside 3 (at 3 3 60) ∷ []) ≡ inside 1 (at 1 1 50) ∷ inside 2 (at 2 2 90) ∷ inside 1 (at 3 3 60) ∷ []
   -- C at 50 takes 60, and is then nearer to 70 than to 39
   pub measured-anew : take-over machines 3 4 1 (inside 1 (at 1 1 50) ∷ inside 2 (at 2 2 60) ∷ inside 3 (at 3 3 39) ∷ inside 4 (at 4 4 70) ∷ []) ≡ inside 1 (at 1 1 50) ∷ inside 1 (at 2 2 60) ∷ inside 3 (at 3 3 39) ∷ inside 1 (at 4 4 70) ∷ []
+  -- what counts is by how much the loss of C is raised, 2,000 against 1,100, and not that of the other
+  pub own-loss : take-over machines 2 3 1 (inside 1 (at 1 1 50) ∷ inside 2 (at 2 2 30) ∷ inside 2 (at 3 3 40) ∷ inside 4 (at 4 4 61) ∷ []) ≡ inside 1 (at 1 1 50) ∷ inside 2 (at 2 2 30) ∷ inside 2 (at 3 3 40) ∷ inside 1 (at 4 4 61) ∷ []
   -- an owner's second record makes no crowd
   pub same-owner : take-over machines 2 3 1 (inside 1 (at 1 1 50) ∷ inside 2 (at 2 1 51) ∷ inside 3 (at 3 3 60) ∷ []) ≡ inside 1 (at 1 1 50) ∷ inside 1 (at 2 1 51) ∷ inside 1 (at 3 3 60) ∷ []
   pub equally-near : take-over machines 2 3 1 (inside 1 (at 1 1 50) ∷ inside 3 (at 4 2 40) ∷ inside 2 (at 5 3 60) ∷ []) ≡ inside 1 (at 1 1 50) ∷ inside 3 (at 4 2 40) ∷ inside 1 (at 5 3 60) ∷ []
@@ -192,7 +192,7 @@ pub record Kept-examples : Type 0 where
   pub own-counts : entered-mean machines (settings 2 2 4 2 1) three-boxes (numbered 4 (widths 40 44)) ≡ record { kept = numbered 4 (widths 40 44) ∷ []; losses = 400 ∷ 500 ∷ []; made = 4 }
   -- alone, it is the mean, and not below it
   pub alone : entered-mean machines (settings 2 2 4 1 4) three-boxes (numbered 4 (widths 40 44)) ≡ record { kept = three-boxes .kept; losses = 400 ∷ []; made = 4 }
-  -- both cover the record, and the one of less loss is used, before its cluster is looked at for size beside the others
+  -- both cover the record, and the one of less loss is used, though more than half of the clusters are larger
   pub reused-first : rule machines (settings 2 9 9 9 9) (with-boxes three-boxes (inside 1 (at 1 1 25) ∷ inside 2 (at 2 2 25) ∷ inside 2 (at 3 3 25) ∷ inside 4 (at 4 4 25) ∷ inside 4 (at 5 5 25) ∷ [])) (inside 1 (at 1 1 25)) ≡ covered (numbered 1 (widths 20 29))
   pub other-covers : rule machines (settings 2 9 9 9 9) (with-boxes three-boxes (inside 1 (at 1 1 15) ∷ inside 2 (at 2 2 25) ∷ [])) (inside 1 (at 1 1 15)) ≡ covered (numbered 3 (widths 10 30))
   -- a crowd of its own comes first

@@ -16,7 +16,7 @@ use Rattle.rules.specs.Clusters.{clusters}
 use Rattle.rules.specs.States.{State, crowd, kept-rank}
 use Rattle.rules.specs.Around.{Fit}
 use Rattle.rules.specs.Refusals.{most-records}
-use Rattle.rules.specs.Runs.{Call, feeding, closing, History, Step, step, lines-of, Run}
+use Rattle.rules.specs.Runs.{Call, feeding, closing, History, step, lines-of, Run}
 use Rattle.rules.specs.Promise.{accepted, is-closed, written, Released-box}
 use Rattle.rules.specs.Laws.{By-rank}
 

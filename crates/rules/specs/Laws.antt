@@ -1,7 +1,7 @@
 -- What the choices from lists give: laws, so that no fold need be trusted. Assumes nothing.
 use mathlib.Core.Path.{_≡_}
-use mathlib.Core.Bool.{Bool, true, false}
-use mathlib.Core.List.{List, [], _∷_, _++_, map}
+use mathlib.Core.Bool.{false}
+use mathlib.Core.List.{List, [], _∷_, _++_}
 use Prim.Native.Nat.{ℕ, _+_, _<_, _≤_, min}
 use lib.ListN.{length}
 use Rattle.std.specs.shelf.Lists.{All, folded}
@@ -14,7 +14,7 @@ use Rattle.rules.specs.declared.Held.{Held}
 use Rattle.rules.specs.Choosing.{In, total, minimal, least, different, Rank, lower, lowest-ranked, beyond}
 use Rattle.rules.specs.Clusters.{owners, size, records, members, clusters}
 use Rattle.rules.specs.States.{State, Kept, crowd, kept-rank, offered}
-use Rattle.rules.specs.Split.{Cut, cut, growth, settle, parts}
+use Rattle.rules.specs.Split.{cut, growth, settle, parts}
 use Rattle.rules.specs.Turn.{grown}
 
 module _ {X : Type 0} where

@@ -13,7 +13,6 @@ use Rattle.domain.specs.Meaning.{Meaning}
 use Rattle.release.specs.declared.Settings.{Settings}
 use Rattle.release.specs.declared.Record.{Record}
 use Rattle.release.specs.declared.Line.{Line}
-use Rattle.release.specs.declared.Manner.{Manner}
 use Rattle.release.specs.declared.Manner.the-variants.{Released, Suppressed}
 use Rattle.rules.specs.declared.Entry.{Entry}
 use Rattle.rules.specs.declared.Held.{Held}

@@ -9,7 +9,6 @@ use Rattle.std.specs.declared.option.Option.{Option}
 use Rattle.std.specs.declared.option.Option.the-variants.{Some, None}
 use Rattle.domain.specs.Meaning.{Meaning}
 use Rattle.release.specs.declared.Settings.{Settings}
-use Rattle.release.specs.declared.Line.{Line}
 use Rattle.release.specs.declared.Manner.the-variants.{Reused, Suppressed}
 use Rattle.rules.specs.declared.Held.{Held}
 use Rattle.rules.specs.Choosing.{chosen, least}
