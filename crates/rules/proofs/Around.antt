@@ -1,25 +1,30 @@
 -- The box of admitted records is the least around them, and the only one.
 use mathlib.Core.Path.{_≡_, refl, sym, _∙_}
-use mathlib.Core.List.{List, [], _∷_}
+use mathlib.Core.Bool.{true}
+use mathlib.Core.List.{List, [], _∷_, _++_}
 use mathlib.Core.Logic.{⊎-elim}
 use Prim.Native.Nat.{ℕ, _≤_}
 use native.Mathlib.Omega.{arith}
 use native.Mathlib.Nat.{le-antisymm}
 use lib.ListN.{length}
 use Rattle.std.specs.shelf.Lists.{All, folded}
+use Rattle.std.proofs.shelf.Lists.{length-append}
 use Rattle.std.proofs.shelf.Counted.{fill-by-all}
-use Rattle.std.proofs.shelf.Tests.{cases-bool}
+use Rattle.std.proofs.shelf.Tests.{cases-bool, or-left, or-right}
+use Rattle.std.proofs.shelf.Elements.{all-weaker}
 use Rattle.domain.specs.declared.range.Range.{Range}
 use Rattle.domain.specs.Ranges.{point}
 use Rattle.domain.specs.Meaning.{Meaning, known, places}
-use Rattle.domain.specs.Boxes.{range-at, point-box}
+use Rattle.domain.specs.Boxes.{range-at, point-box, join-boxes}
 use Rattle.domain.specs.BoxLaws.{Allowed, InsideBox}
 use Rattle.domain.specs.BoxLaws as laws
 use Rattle.domain.proofs.Joins as joins
-use Rattle.domain.proofs.Places.{covers-wider, point-box-least, widened-least, box-semilattice, loss-mono}
+use Rattle.domain.proofs.Places.{join-boxes-least, join-boxes-covers, covers-wider, point-box-least, widened-least, box-semilattice, loss-mono}
 use Rattle.rules.specs.declared.Entry.{Entry}
-use Rattle.rules.specs.Clusters.{Box, values, widened, box-of}
-use Rattle.rules.specs.Around.{Fit, Covers-all, Least-around, Boxes-records}
+use Rattle.rules.specs.Choosing.{In}
+use Rattle.rules.specs.Clusters.{Box, values, widened, box-of, cost, covers-entry}
+use Rattle.rules.proofs.Totals.{in-all}
+use Rattle.rules.specs.Around.{Fit, Covers-all, Least-around, Boxes-records, Together, Boxes-stand}
 
 inside-trans : (m : Meaning) (a b c : Box) → InsideBox m a b → InsideBox m b c → InsideBox m a c
 inside-trans m a b c p q i k = joins.inside-trans (range-at a i) (range-at b i) (range-at c i) (p i k) (q i k)
@@ -85,3 +90,47 @@ boxes-records m es l a =
 pub box-covers : (m : Meaning) (es : List Entry) → All (Fit m) es → Covers-all m (box-of m es) es
 box-covers m [] a = tt
 box-covers m (e ∷ es) a = box-least m (e ∷ es) (omega arith) a .covering
+
+-- ---- more records
+
+folded-push : {X Y : Type 0} (f : X → Y → X) (x : X) (ys : List Y) (y : Y) → folded f x (ys ++ y ∷ []) ≡ f (folded f x ys) y
+folded-push f x [] y = refl
+folded-push f x (z ∷ ys) y = folded-push f (f x z) ys y
+
+box-wider : (m : Meaning) (es : List Entry) (e : Entry) → 1 ≤ length es → box-of m (es ++ e ∷ []) ≡ widened m (box-of m es) e
+box-wider m [] e l = absurd (omega (arith, l))
+box-wider m (x ∷ es) e l = folded-push (widened m) (point-box m (values x)) es e
+
+some-in : (es gs : List Entry) → 1 ≤ length es → All (In gs) es → 1 ≤ length gs
+some-in [] gs l a = absurd (omega (arith, l))
+some-in (e ∷ es) [] l a = absurd (a .0)
+some-in (e ∷ es) (g ∷ gs) l a = omega arith
+
+box-joined : (m : Meaning) (es fs gs : List Entry) → 1 ≤ length es → 1 ≤ length fs → All (Fit m) es → All (Fit m) fs → Together es fs gs → box-of m gs ≡ join-boxes m (box-of m es) (box-of m fs)
+box-joined m es fs gs l r a b t =
+    let x = box-least m es l a in
+    let y = box-least m fs r b in
+    let both : (P : Entry → Type 0) → All P es → All P fs → All P gs = λ P p q. all-weaker _ P (λ e i. ⊎-elim (in-all P es e p) (in-all P fs e q) i) gs (t .either) in
+    let j = join-boxes-least m (box-of m es) (box-of m fs) (x .is-box .allowed) (y .is-box .allowed) in
+    let wide = join-boxes-covers m (box-of m es) (box-of m fs) (x .is-box .allowed) (y .is-box .allowed) in
+    sym (boxes-records m gs (some-in es gs l (t .all-first)) (both (Fit m) a b) .no-other (join-boxes m (box-of m es) (box-of m fs)) (record {
+      is-box = box-semilattice m .closed (box-of m es) (box-of m fs) (x .is-box) (y .is-box);
+      covering = both (λ e. covers-entry m (join-boxes m (box-of m es) (box-of m fs)) e ≡ true)
+          (all-weaker _ _ (λ e c. wide (values e) (or-left (covers-entry m (box-of m es) e) (covers-entry m (box-of m fs) e) c)) es (x .covering))
+          (all-weaker _ _ (λ e c. wide (values e) (or-right (covers-entry m (box-of m es) e) (covers-entry m (box-of m fs) e) c)) fs (y .covering));
+      least = λ k ok c. j .least k ok
+          (x .least k ok (all-weaker (In gs) _ (λ e i. in-all (λ e. covers-entry m k e ≡ true) gs e c i) es (t .all-first)))
+          (y .least k ok (all-weaker (In gs) _ (λ e i. in-all (λ e. covers-entry m k e ≡ true) gs e c i) fs (t .all-second)));
+    }))
+
+all-front : (P : Entry → Type 0) (xs ys : List Entry) → All P (xs ++ ys) → All P xs
+all-front P [] ys a = tt
+all-front P (x ∷ xs) ys a = (a .0, all-front P xs ys (a .1))
+
+box-grows : (m : Meaning) (es more : List Entry) → All (Fit m) (es ++ more) → 1 ≤ length es → cost m es ≤ cost m (es ++ more)
+box-grows m es more a l =
+    let b = box-least m (es ++ more) (omega (arith, l, length-append es more)) a in
+    boxes-records m es l (all-front (Fit m) es more a) .cheapest (box-of m (es ++ more)) (b .is-box .allowed) (all-front (λ e. covers-entry m (box-of m (es ++ more)) e ≡ true) es more (b .covering))
+
+pub boxes-stand : Boxes-stand
+boxes-stand = record { grows = box-grows; least = boxes-records; wider = box-wider; joined = box-joined }

@@ -2,28 +2,36 @@
 use mathlib.Core.Path.{_≡_, refl, sym, ap, _∙_, subst}
 use mathlib.Core.Bool.{Bool, true, false, cond}
 use mathlib.Core.List.{List, [], _∷_, _++_, map}
-use mathlib.Core.Logic.{inl, inr}
+use mathlib.Core.Logic.{_⊎_, inl, inr, ⊎-elim}
 use Prim.Native.Nat.{ℕ, _<_, _≤_}
 use native.Mathlib.Omega.{arith}
 use lib.Dec.{eqb, ltb}
 use lib.ListN.{length}
 use Rattle.std.specs.shelf.Lists.{All, kept-by}
-use Rattle.std.proofs.shelf.Tests.{eqb-true, eqb-false, eq-eqb, ltb-false, or-left}
+use Rattle.std.proofs.shelf.Lists.{append-nil, map-append}
+use Rattle.std.proofs.shelf.Elements.{kept-by-append}
+use Rattle.std.proofs.shelf.Tests.{ne-eqb, eqb-true, eqb-false, eq-eqb, ltb-false, or-left}
 use Rattle.std.specs.declared.option.Option.{Option}
 use Rattle.std.specs.declared.option.Option.the-variants.{Some, None}
 use Rattle.rules.specs.declared.Held.{Held}
 use Rattle.rules.specs.Choosing.{In, head, lowest, minimal, least, different, listed, lower}
 use Rattle.domain.specs.Meaning.{Meaning}
 use Rattle.rules.specs.declared.Entry.{Entry}
-use Rattle.rules.specs.Clusters.{by-age, clusters}
+use Rattle.release.specs.declared.Settings.{Settings}
+use Rattle.rules.specs.Clusters.{records, members, by-age, clusters}
+use Rattle.rules.specs.States.{State}
+use Rattle.rules.specs.Arrival.{home}
 use Rattle.rules.specs.Split.{growth, joins-first}
 use Rattle.rules.specs.Promise.{one}
-use Rattle.rules.specs.Laws.{Has-least, Minimal-law, First-least, Least-law, By-rank, Once, Different-law, Ascending, Clusters-law, Settles, Choices}
+use Rattle.rules.specs.Laws.{Has-least, Minimal-law, First-least, Least-law, By-rank, Once, Different-law, Ascending, Clusters-law, Arrival-law, Merger-law, Settles, Choices}
 use Rattle.rules.proofs.Totals.{true-false, all-in, in-all, kept-in, in-kept, in-map, map-in, append-in, mark, total-in-order, one-self}
 use Rattle.rules.proofs.Numbers.{times, in-times, in-listed, listed-in, times-listed, times-different, different-once, lowest-le, lowest-some}
 use Rattle.rules.proofs.Ranks.{by-rank-in-order, lowest-ranked-law, keeping-law}
 use Rattle.rules.proofs.Parts.{cut-ends, parts-total, parts-large}
-use Rattle.rules.proofs.Turns.{grown-large}
+use Rattle.rules.specs.Around.{Together}
+use Rattle.rules.specs.Turn.{moved, merged}
+use Rattle.rules.proofs.Homes.{housed}
+use Rattle.rules.proofs.Turns.{grown-large, moved-entry}
 
 module _ {X : Type 0} (key : X → ℕ) where
   minimal-sound : (xs : List X) (x : X) → In (minimal key xs) x → Has-least key xs x
@@ -131,6 +139,92 @@ clusters-law hs =
       listed = λ h i. listed-in (h .label) (clusters hs) (times-listed (h .label) (clusters hs) (omega (arith, same (h .label), in-times (h .label) (different labels) (d .none-lost (h .label) (in-map (λ (h : Held). h .label) hs h i)))));
     }
 
+-- ---- arrival
+
+-- one held record more
+pushed : (c : ℕ) (hs : List Held) (x : Held) (b : Bool) → eqb (x .label) c ≡ b → members c (hs ++ x ∷ []) ≡ members c hs ++ cond b (x .entry ∷ []) []
+pushed c hs x b e =
+    ap records (kept-by-append (λ h. eqb (h .label) c) hs (x ∷ [])) ∙ map-append (λ (h : Held). h .entry) (kept-by (λ h. eqb (h .label) c) hs) (kept-by (λ h. eqb (h .label) c) (x ∷ []))
+    ∙ ap (λ es. members c hs ++ es) (last b e)
+  where
+    last : (b : Bool) → eqb (x .label) c ≡ b → records (kept-by (λ h. eqb (h .label) c) (x ∷ [])) ≡ cond b (x .entry ∷ []) []
+    last true e = ap (λ t. records (cond t (x ∷ []) [])) e
+    last false e = ap (λ t. records (cond t (x ∷ []) [])) e
+
+pub arrives : (m : Meaning) (g : Settings) (s : State) (e : Entry) → Arrival-law m g s e
+arrives m g s e =
+    let x : Held = record { entry = e; label = home m g s e } in
+    record {
+      either = ⊎-elim inl (λ r. inr (r .0)) (housed m g s e);
+      takes = pushed (home m g s e) (s .held) x true (eq-eqb _ _ refl);
+      no-other = λ c n. pushed c (s .held) x false (ne-eqb (home m g s e) c n) ∙ append-nil (members c (s .held));
+    }
+
+-- ---- mergers
+
+-- one held record more, at the front
+at-front : (c : ℕ) (h : Held) (hs : List Held) (b : Bool) → eqb (h .label) c ≡ b → members c (h ∷ hs) ≡ cond b (h .entry ∷ members c hs) (members c hs)
+at-front c h hs true e = ap (λ t. records (cond t (h ∷ kept-by (λ h. eqb (h .label) c) hs) (kept-by (λ h. eqb (h .label) c) hs))) e
+at-front c h hs false e = ap (λ t. records (cond t (h ∷ kept-by (λ h. eqb (h .label) c) hs) (kept-by (λ h. eqb (h .label) c) hs))) e
+
+member-in : (c : ℕ) (hs : List Held) (h : Held) → In hs h → h .label ≡ c → In (members c hs) (h .entry)
+member-in c hs h i e = in-map (λ (h : Held). h .entry) (kept-by (λ h. eqb (h .label) c) hs) h (in-kept (λ h. eqb (h .label) c) hs h i (eq-eqb _ _ e))
+
+in-member : (c : ℕ) (hs : List Held) (e : Entry) → In (members c hs) e → (h : Held) × In hs h × (h .label ≡ c) × (h .entry ≡ e)
+in-member c hs e i =
+    let r = map-in (λ (h : Held). h .entry) (kept-by (λ h. eqb (h .label) c) hs) e i in
+    let k = kept-in (λ h. eqb (h .label) c) hs (r .0) (r .1) in
+    (r .0, k .0, eqb-true _ _ (k .1), r .2)
+
+-- the label after the merger
+moved-to : (c d : ℕ) (h : Held) (b : Bool) → eqb (h .label) d ≡ b → moved c d h .label ≡ cond b c (h .label)
+moved-to c d h true e = ap (λ t. cond t (record { entry = h .entry; label = c }) h .label) e
+moved-to c d h false e = ap (λ t. cond t (record { entry = h .entry; label = c }) h .label) e
+
+merger-takes : (c d : ℕ) (hs : List Held) → Together (members c hs) (members d hs) (members c (merged c d hs))
+merger-takes c d hs = record {
+  either = all-in _ (members c (merged c d hs)) (λ e i.
+      let r = in-member c (merged c d hs) e i in
+      let o = map-in (moved c d) hs (r .0) (r .1) in
+      from (o .0) (o .1) e (ap (λ x. x .label) (o .2) ∙ r .2) (sym (moved-entry c d (o .0)) ∙ ap (λ x. x .entry) (o .2) ∙ r .3) (eqb (o .0 .label) d) refl);
+  all-first = all-in _ (members c hs) (λ e i. let r = in-member c hs e i in into (r .0) (r .1) e (r .3) (stays (r .0) (r .2) (eqb (r .0 .label) d) refl));
+  all-second = all-in _ (members d hs) (λ e i. let r = in-member d hs e i in into (r .0) (r .1) e (r .3) (moved-to c d (r .0) true (eq-eqb _ _ (r .2))));
+}
+  where
+    into : (h : Held) → In hs h → (e : Entry) → h .entry ≡ e → moved c d h .label ≡ c → In (members c (merged c d hs)) e
+    into h i e s l = subst (In (members c (merged c d hs))) (moved-entry c d h ∙ s) (member-in c (merged c d hs) (moved c d h) (in-map (moved c d) hs h i) l)
+
+    stays : (h : Held) → h .label ≡ c → (b : Bool) → eqb (h .label) d ≡ b → moved c d h .label ≡ c
+    stays h l true f = moved-to c d h true f
+    stays h l false f = moved-to c d h false f ∙ l
+
+    from : (h : Held) → In hs h → (e : Entry) → moved c d h .label ≡ c → h .entry ≡ e → (b : Bool) → eqb (h .label) d ≡ b → In (members c hs) e ⊎ In (members d hs) e
+    from h i e l s true f = inr (subst (In (members d hs)) s (member-in d hs h i (eqb-true _ _ f)))
+    from h i e l s false f = inl (subst (In (members c hs)) s (member-in c hs h i (sym (moved-to c d h false f) ∙ l)))
+
+merger-closes : (c d : ℕ) (hs : List Held) → (c ≡ d → ⊥) → members d (merged c d hs) ≡ []
+merger-closes c d [] n = refl
+merger-closes c d (h ∷ hs) n = at-front d (moved c d h) (merged c d hs) false (ne-eqb _ _ (away (eqb (h .label) d) refl)) ∙ merger-closes c d hs n
+  where
+    away : (b : Bool) → eqb (h .label) d ≡ b → moved c d h .label ≡ d → ⊥
+    away true f e = n (sym (moved-to c d h true f) ∙ e)
+    away false f e = eqb-false _ _ f (sym (moved-to c d h false f) ∙ e)
+
+merger-leaves : (c d : ℕ) (hs : List Held) (x : ℕ) → (x ≡ c → ⊥) → (x ≡ d → ⊥) → members x (merged c d hs) ≡ members x hs
+merger-leaves c d [] x p q = refl
+merger-leaves c d (h ∷ hs) x p q = go (eqb (h .label) d) refl (merger-leaves c d hs x p q)
+  where
+    go : (b : Bool) → eqb (h .label) d ≡ b → members x (merged c d hs) ≡ members x hs → members x (moved c d h ∷ merged c d hs) ≡ members x (h ∷ hs)
+    go true f ih = at-front x (moved c d h) (merged c d hs) false (ne-eqb _ _ (λ e. p (sym e ∙ moved-to c d h true f))) ∙ ih ∙ sym (at-front x h hs false (ne-eqb _ _ (λ e. q (sym e ∙ eqb-true _ _ f))))
+    go false f ih =
+        let l : moved c d h .label ≡ h .label = moved-to c d h false f in
+        at-front x (moved c d h) (merged c d hs) (eqb (h .label) x) (ap (λ z. eqb z x) l)
+        ∙ ap (λ e. cond (eqb (h .label) x) (e ∷ members x (merged c d hs)) (members x (merged c d hs))) (moved-entry c d h)
+        ∙ ap (λ es. cond (eqb (h .label) x) (h .entry ∷ es) es) ih ∙ sym (at-front x h hs (eqb (h .label) x) refl)
+
+pub merger-law : (c d : ℕ) (hs : List Held) → Merger-law c d hs
+merger-law c d hs = record { takes = merger-takes c d hs; closes = merger-closes c d hs; no-other = merger-leaves c d hs }
+
 -- ---- leftover owners
 
 joined-at : (q : List ℕ → Bool) (w : ℕ) (us vs : List (List ℕ)) (p : List ℕ) → All (λ y. q y ≡ false) us → q p ≡ true → joins-first q w (us ++ p ∷ vs) ≡ us ++ (p ++ w ∷ []) ∷ vs
@@ -165,6 +259,8 @@ choices = record {
   numbers-different = different-law;
   open-clusters = clusters-law;
   boxes-kept = keeping-law;
+  arrivals = arrives;
+  mergers = merger-law;
   leftovers = settles;
   cluster-parts = λ m k es pos. record { each-once = λ f. parts-total f m k es pos; crowds = parts-large m k es pos };
   rounds = record { cut-ends = cut-ends; take-over-ends = grown-large };

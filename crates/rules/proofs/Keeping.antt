@@ -7,6 +7,7 @@ use native.Mathlib.Omega.{arith}
 use lib.Dec.{eqb}
 use lib.ListN.{length, take, length-take}
 use Rattle.std.specs.shelf.Lists.{kept-by, All, folded}
+use Rattle.std.proofs.shelf.Lists.{length-append, length-map}
 use Rattle.std.proofs.shelf.Elements.{all-append, all-weaker, all-kept-by, all-map, all-push}
 use Rattle.std.proofs.shelf.Tests.{cond-both}
 use Rattle.std.specs.declared.option.Option.{Option}
@@ -28,20 +29,13 @@ use Rattle.rules.specs.Turn.{Rule, large, covered, outnumbered, too-few, joini
 use Rattle.rules.specs.Runs.{serve, drain}
 use Rattle.rules.specs.Laws.{By-rank}
 use Rattle.rules.specs.Facts.{By-position, is-suppressed, suppressed-lines}
-use Rattle.rules.proofs.Totals.{total-append, total-map, length-total, in-all, all-in, in-map, map-in}
+use Rattle.rules.proofs.Totals.{total-append, total-map, in-all, all-in, in-map, map-in}
 use Rattle.rules.proofs.Ranks.{by-rank-in-order, by-rank-take}
 use Rattle.rules.proofs.Parts.{parts-large}
 use Rattle.rules.proofs.Turns.{moved-entry, take-over-keeps, grown-large}
 use Rattle.rules.proofs.Fairness.{Says, rule-says}
 use Rattle.rules.proofs.Wholeness.{next-in}
 use Rattle.release.specs.Manners.{manner-number}
-
-pub length-append : {X : Type 0} (xs ys : List X) → length (xs ++ ys) ≡ length xs + length ys
-length-append xs ys = omega (arith, total-append (λ _. 1) xs ys, length-total (xs ++ ys), length-total xs, length-total ys)
-
-length-map : {X Y : Type 0} (f : X → Y) (xs : List X) → length (map f xs) ≡ length xs
-length-map f [] = refl
-length-map f (x ∷ xs) = omega (arith, length-map f xs)
 
 -- ---- positions
 
@@ -132,7 +126,7 @@ part-out m g o es l =
       boxes = entered-kept m g (o .boxes) (record { number = number; ranges = b });
       hidden = total-append (λ (l : Line). cond (is-suppressed (l .manner)) 1 0) (o .lines) new ∙ omega (arith, none es);
       more = omega arith;
-      made = omega (arith, l, length-append (o .lines) new, length-map (λ e. line e Released number b) es);
+      made = omega (arith, l, length-append (o .lines) new, length-map es (λ e. line e Released number b));
       numbers = λ n u a. all-append _ (o .lines) new (all-weaker (Numbered n (o .boxes .made)) (Numbered n number) (λ l f r. let x = f r in (x .0, omega (arith, x .1))) (o .lines) a) (all-map _ (λ e. line e Released number b) es (each n u es));
     }
   where

@@ -2,6 +2,7 @@ pub mod Examples
 pub mod Totals
 pub mod Numbers
 pub mod Parts
+pub mod Homes
 pub mod Turns
 pub mod Refused
 pub mod Wholeness
@@ -13,3 +14,4 @@ pub mod Determinism
 pub mod Choices
 pub mod Keeping
 pub mod Bounds
+pub mod Reasons

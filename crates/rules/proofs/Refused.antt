@@ -135,5 +135,12 @@ feeds m s r room e =
       values = λ i k. and-parts (known m i) (m .attribute i .admitted (value-at (r .values) i)) (all-counting (λ i. admits-of m i (value-at (r .values) i) ≡ true) 0 (known-count m) vs i (omega arith) (omega (arith, known-tells m i k))) .1;
     }
 
-pub closes : (s : State) (room : ℕ) → close-refusal s room ≡ None → s .closed ≡ false
-closes s room e = if-none (s .closed) Closed (first-none (closed-already s) (too-short (length (s .held)) room ∷ []) e .0)
+pub record Closes (s : State) (room : ℕ) : Type 0 where
+  pub is-open : s .closed ≡ false
+  pub space : length (s .held) ≤ room
+
+pub closes : (s : State) (room : ℕ) → close-refusal s room ≡ None → Closes s room
+closes s room e =
+    let a = first-none (closed-already s) (too-short (length (s .held)) room ∷ []) e in
+    let b = first-none (too-short (length (s .held)) room) [] (a .1) in
+    record { is-open = if-none (s .closed) Closed (a .0); space = ltb-false room (length (s .held)) (if-none (ltb room (length (s .held))) ShortList (b .0)) }

@@ -138,9 +138,6 @@ merged-others : (c d : ℕ) (hs : List Held) → length (others c (merged c d hs
 merged-others c d [] = refl
 merged-others c d (h ∷ hs) = go (eqb (h .label) d) refl (eqb (h .label) c) refl (merged-others c d hs)
   where
-    more : List Held
-    more = others c (merged c d hs)
-
     at : (t a : Bool) (x : Held) → t ≡ a → length (cond (not t) (x ∷ others c (merged c d hs)) (others c (merged c d hs))) ≡ length (cond (not a) (x ∷ others c (merged c d hs)) (others c (merged c d hs)))
     at t a x e = ap {B = ℕ} (λ z. length (cond (not z) (x ∷ others c (merged c d hs)) (others c (merged c d hs)))) e
 

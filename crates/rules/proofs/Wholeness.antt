@@ -51,7 +51,7 @@ serve-all P m g s None i a = (a, tt)
 serve-all P m g s (Some t) i a = applied-all P m g s t (rule m g s t) (i t refl) a
 
 -- whose turn it is is held
-some-same : {X : Type 0} {x y : X} → Some x ≡ Some y → x ≡ y
+pub some-same : {X : Type 0} {x y : X} → Some x ≡ Some y → x ≡ y
 some-same {X} {x} e = ap un e
   where
     un : Option X → X

@@ -34,7 +34,7 @@ abbrev pub suppressed-lines : List Line → ℕ
 suppressed-lines ls = total (λ l. cond (is-suppressed (l .manner)) 1 0) ls
 
 -- between calls
-pub record Bounded (m : Meaning) (g : Settings) (h : History) (s : State) : Type 0 where
+pub record Bounded (g : Settings) (s : State) : Type 0 where
   pub few-held : length (s .held) ≤ g .delta
   pub few-open : length (clusters (s .held)) ≤ g .beta
   pub few-kept : length (s .boxes .kept) ≤ g .rho
@@ -42,10 +42,12 @@ pub record Bounded (m : Meaning) (g : Settings) (h : History) (s : State) : Type
   pub few-boxes : s .boxes .made ≤ s .accepted
   pub few-records : s .accepted ≤ most-records
 
-pub record Ordered (m : Meaning) (g : Settings) (h : History) (s : State) : Type 0 where
+pub record Ordered (m : Meaning) (s : State) : Type 0 where
   -- so that the first held record has the lowest position, and the first kept box that covers a record the least rank
   pub by-position : By-position (s .held)
   pub by-rank : By-rank (kept-rank m) (s .boxes .kept)
+  -- so that the position of the next record is a label that no cluster has
+  pub old-labels : All (λ r. r .label ≤ s .accepted) (s .held)
   -- held records have admitted values
   pub fit : All (λ r. Fit m (r .entry)) (s .held)
 
@@ -60,15 +62,20 @@ abbrev pub more-lines : Call → ℕ
 more-lines (feeding r room) = 1
 more-lines (closing room) = 0
 
+abbrev pub room-of : Call → ℕ
+room-of (feeding r room) = room
+room-of (closing room) = room
+
 -- what a call writes
 pub record Writing (m : Meaning) (g : Settings) (s : State) (c : Call) : Type 0 where
   pub few-lines : length (lines-of (step m g s c .exchange .got)) ≤ length (s .held) + more-lines c
+  pub in-room : length (lines-of (step m g s c .exchange .got)) ≤ room-of c
   -- a released box has a number that none had before
   pub new-numbers : All (λ l. l .manner ≡ Released → (s .boxes .made < l .number) × (l .number ≤ step m g s c .after .boxes .made)) (lines-of (step m g s c .exchange .got))
 
 pub record Facts (m : Meaning) (g : Settings) (h : History) (s : State) : Type 0 where
-  pub bounded : Bounded m g h s
-  pub ordered : Ordered m g h s
+  pub bounded : Bounded g s
+  pub ordered : Ordered m s
   pub counted : Counted h s
   -- each kept box was released, with a crowd
   pub kept-released : All (λ b. Released-box m (crowd g s) h (b .number) (b .ranges)) (s .boxes .kept)

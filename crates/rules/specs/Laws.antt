@@ -2,6 +2,7 @@
 use mathlib.Core.Path.{_≡_}
 use mathlib.Core.Bool.{false}
 use mathlib.Core.List.{List, [], _∷_, _++_}
+use mathlib.Core.Logic.{_⊎_}
 use Prim.Native.Nat.{ℕ, _+_, _<_, _≤_, min}
 use lib.ListN.{length}
 use Rattle.std.specs.shelf.Lists.{All, folded}
@@ -14,8 +15,10 @@ use Rattle.rules.specs.declared.Held.{Held}
 use Rattle.rules.specs.Choosing.{In, total, minimal, least, different, Rank, lower, lowest-ranked, beyond}
 use Rattle.rules.specs.Clusters.{owners, size, records, members, clusters}
 use Rattle.rules.specs.States.{State, Kept, crowd, kept-rank, offered}
+use Rattle.rules.specs.Around.{Together}
+use Rattle.rules.specs.Arrival.{home, arrive}
 use Rattle.rules.specs.Split.{cut, growth, settle, parts}
-use Rattle.rules.specs.Turn.{grown}
+use Rattle.rules.specs.Turn.{merged, grown}
 
 module _ {X : Type 0} where
   -- none of the others has a lower key
@@ -82,6 +85,19 @@ pub record Clusters-law (hs : List Held) : Type 0 where
 abbrev pub Keeping-law : Meaning → ℕ → List Kept → Type 0
 Keeping-law m n bs = folded (offered m n) [] bs ≡ lowest-ranked (kept-rank m) n bs
 
+-- one cluster takes the record, and no other changes
+pub record Arrival-law (m : Meaning) (g : Settings) (s : State) (e : Entry) : Type 0 where
+  -- an open one, or a new one, which has the record's position for a label
+  pub either : In (clusters (s .held)) (home m g s e) ⊎ (home m g s e ≡ e .position)
+  pub takes : members (home m g s e) (arrive m g s e .held) ≡ members (home m g s e) (s .held) ++ e ∷ []
+  pub no-other : (c : ℕ) → (home m g s e ≡ c → ⊥) → members c (arrive m g s e .held) ≡ members c (s .held)
+
+-- c takes the records of d, which closes, and no other cluster changes
+pub record Merger-law (c d : ℕ) (hs : List Held) : Type 0 where
+  pub takes : Together (members c hs) (members d hs) (members c (merged c d hs))
+  pub closes : (c ≡ d → ⊥) → members d (merged c d hs) ≡ []
+  pub no-other : (x : ℕ) → (x ≡ c → ⊥) → (x ≡ d → ⊥) → members x (merged c d hs) ≡ members x hs
+
 -- a leftover owner joins the first made of the parts that grow least
 pub record Settles (m : Meaning) (es : List Entry) (ps : List (List ℕ)) (w : ℕ) : Type 0 where
   pub grows : List ℕ
@@ -106,6 +122,8 @@ pub record Choices : Type 0 where
   pub numbers-different : (xs : List ℕ) → Different-law xs
   pub open-clusters : (hs : List Held) → Clusters-law hs
   pub boxes-kept : (m : Meaning) (n : ℕ) (bs : List Kept) → Keeping-law m n bs
+  pub arrivals : (m : Meaning) (g : Settings) (s : State) (e : Entry) → Arrival-law m g s e
+  pub mergers : (c d : ℕ) (hs : List Held) → Merger-law c d hs
   pub leftovers : (m : Meaning) (es : List Entry) (ps : List (List ℕ)) (w : ℕ) → 1 ≤ length ps → Settles m es ps w
   pub cluster-parts : (m : Meaning) (k : ℕ) (es : List Entry) → 1 ≤ k → Parts-law m k es
   pub rounds : Rounds

@@ -7,6 +7,7 @@ pub mod Split
 pub mod Release
 pub mod Turn
 pub mod Refusals
+pub mod Reasons
 pub mod Runs
 pub mod Promise
 pub mod Laws

@@ -25,7 +25,7 @@ pub data Call : Type 0 where
   feeding : (r : Record) (room : ℕ) → Call
   closing : (room : ℕ) → Call
 
--- the lines written, at the start of the list, or the refusal, which writes nothing
+-- the lines written, at the start of the list, of which the call tells the number; or the refusal, which writes nothing
 pub data Answer : Type 0 where
   wrote : List Line → Answer
   refused : Refusal → Answer

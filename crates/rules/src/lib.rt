@@ -4,8 +4,12 @@ ghost use Rattle.rules.specs.Examples.{Examples};
 ghost use Rattle.rules.specs.Facts.{Facts-stand};
 ghost use Rattle.rules.specs.Laws.{Choices};
 ghost use Rattle.rules.specs.Promise.{Promise-stands};
+ghost use Rattle.rules.specs.Reasons.{Reasons-stand};
 ghost use Rattle.rules.specs.Runs.{Determined};
 use release::Record;
+use release::RecordDebug;
+use release::RecordEq;
+use release::RecordPartialEq;
 
 mod refusals;
 
@@ -21,57 +25,50 @@ pub use refusals::RefusalEq;
 pub use refusals::RefusalPartialEq;
 
 // An accepted record; positions count from 1.
-#[derive(Clone, Copy)]
+#[derive(Debug, Clone, Copy, PartialEq, Eq)]
 pub struct Entry {
     pub position: u32,
     pub fed: Record,
 }
 
 // A record in an open cluster; the label is the position of the record that opened the cluster.
-#[derive(Clone, Copy)]
+#[derive(Debug, Clone, Copy, PartialEq, Eq)]
 pub struct Held {
     pub entry: Entry,
     pub label: u32,
 }
 
 // Every run keeps the promise.
-pub fn promise_stands() -> u8
+pub fn promise_stands()
     ensures { λ _. ⌜ Promise-stands ⌝ }
-{
-    0
-}
+{}
 
 // Every run keeps to its bounds, orders and counts.
-pub fn facts_stand() -> u8
+pub fn facts_stand()
     ensures { λ _. ⌜ Facts-stand ⌝ }
-{
-    0
-}
+{}
 
 // The opening and the calls' arguments determine a run, its answers and its turns.
-pub fn runs_determined() -> u8
+pub fn runs_determined()
     ensures { λ _. ⌜ Determined ⌝ }
-{
-    0
-}
+{}
+
+// A call is refused for a reason, the first that holds, and only so.
+pub fn reasons_stand()
+    ensures { λ _. ⌜ Reasons-stand ⌝ }
+{}
 
 // What is chosen from lists is what its name says.
-pub fn choices_stand() -> u8
+pub fn choices_stand()
     ensures { λ _. ⌜ Choices ⌝ }
-{
-    0
-}
+{}
 
 // The box of records is the least around them.
-pub fn boxes_stand() -> u8
+pub fn boxes_stand()
     ensures { λ _. ⌜ Boxes-stand ⌝ }
-{
-    0
-}
+{}
 
 // Worked examples of the definitions, jointly.
-pub fn examples_stand() -> u8
+pub fn examples_stand()
     ensures { λ _. ⌜ Examples ⌝ }
-{
-    0
-}
+{}

@@ -1,24 +1,20 @@
 -- Which answer a row gets, and how its bytes go on with those of the sheet. Assumes nothing.
-use mathlib.Core.Path.{_≡_, refl, sym, ap, subst, _∙_}
+use mathlib.Core.Path.{_≡_, sym, ap, subst, _∙_}
 use mathlib.Core.List.{List, [], _∷_, _++_, append-nil}
 use Prim.Native.Nat.{ℕ, _+_, _<_, _≤_}
-use native.Mathlib.Omega.{arith}
 use lib.ListN.{length, take, drop, length-append}
-use Rattle.csv.specs.Grammar.{FieldText}
-use Rattle.csv.specs.Reading.{cut, read-line}
+use Rattle.csv.specs.Reading.{read-line}
 use Rattle.release.specs.declared.Line.{Line}
-use Rattle.std.specs.declared.result.Result.{Result}
 use Rattle.std.specs.declared.result.Result.the-variants.{Ok, Err}
 use Rattle.std.specs.shelf.Lists.{joined}
 use Rattle.std.proofs.shelf.Elements.{all-push}
 use Rattle.std.proofs.shelf.Lists.{take-at, joined-more}
 use Rattle.std.proofs.shelf.Tests.{cond-true, cond-false, le-leb, lt-leb, lt-ltb, le-ltb}
-use Rattle.sheet.specs.declared.faults.RowFault.{RowFault}
 use Rattle.sheet.specs.declared.faults.RowFault.the-variants.{Full, AreaTooShort}
 use Rattle.sheet.specs.Calls.{row-answer}
 use Rattle.sheet.specs.Files.{ReadBack}
 use Rattle.sheet.specs.Rows.{line-bytes, attribute-fields, reading-field, row-bytes}
-use Rattle.sheet.specs.Sheets.{row-fields, Wrote, RowBack, GoesOn}
+use Rattle.sheet.specs.Sheets.{row-fields, RowBack, GoesOn}
 use Rattle.sheet.specs.Shown.{Shown}
 use Rattle.sheet.proofs.Lawfully.{row-lawful, line-reads-back}
 use Rattle.sheet.proofs.Wholes.{rows-back}

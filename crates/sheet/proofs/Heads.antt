@@ -1,13 +1,13 @@
 -- A header's text and the line that it is. Assumes nothing.
 use mathlib.Core.Path.{_≡_, refl, sym, ap, subst, _∙_}
-use mathlib.Core.Logic.{_⊎_, inl, inr, ⊎-elim}
-use mathlib.Core.Bool.{Bool, true, false, cond, _&&_}
+use mathlib.Core.Logic.{_⊎_, ⊎-elim}
+use mathlib.Core.Bool.{true, false, cond}
 use mathlib.Core.List.{List, [], _∷_, _++_, append-assoc, append-nil}
-use Prim.Native.Nat.{ℕ, suc, _+_, _-_, _<_, _≤_}
+use Prim.Native.Nat.{ℕ, _+_, _-_, _<_, _≤_}
 use native.Mathlib.Omega.{arith}
 use lib.Dec.{leb, ltb, eqb}
 use lib.ListN.{length, getD, take, drop, length-append}
-use Rattle.csv.specs.Grammar.{plain, FieldText, plainly, quoted, Plain, Lawful, AllLawful, written, with-commas, Derives}
+use Rattle.csv.specs.Grammar.{plain, FieldText, plainly, quoted, Plain, Lawful, written, with-commas, Derives}
 use Rattle.csv.specs.Reading.{LineRead, cut, damaged, read-line}
 use Rattle.csv.specs.Told.{line-answer}
 use Rattle.csv.specs.declared.faults.TextFault.{TextFault}
@@ -16,14 +16,13 @@ use Rattle.csv.proofs.Agreement.{LineTells, line-tells, derived-reads}
 use Rattle.std.specs.declared.result.Result.{Result}
 use Rattle.std.specs.declared.result.Result.the-variants.{Ok, Err}
 use Rattle.std.proofs.shelf.Lists.{getD-at, take-at}
-use Rattle.std.proofs.shelf.Tests.{cases-lt, cases-eq, cond-true, cond-false, and-from, and-right, le-leb, lt-ltb, le-ltb, ltb-true, ltb-false, eqb-true, eq-eqb, ne-eqb}
+use Rattle.std.proofs.shelf.Tests.{cases-lt, cases-eq, cond-true, cond-false, and-from, and-right, le-leb, lt-ltb, le-ltb, eq-eqb, ne-eqb}
 use Rattle.std.proofs.shelf.Ways.{tells}
-use Rattle.sheet.specs.declared.faults.HeaderFault.{HeaderFault}
 use Rattle.sheet.specs.declared.faults.HeaderFault.the-variants.{Text, Fields, AreaTooShort}
 use Rattle.sheet.specs.Calls.{second-line, header-answer}
 use Rattle.sheet.specs.Headers.{ends-line, without-line-end}
 use Rattle.sheet.specs.Rows.{line-bytes, bytes-of}
-use Rattle.sheet.specs.Sheets.{Wrote, Headed}
+use Rattle.sheet.specs.Sheets.{Headed}
 use Rattle.sheet.proofs.Lawfully.{line-reads-back}
 
 -- No line without its CR LF ends with an LF.

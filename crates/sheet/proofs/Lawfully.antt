@@ -1,13 +1,13 @@
 -- The fields of a row are lawful, so that the grammar derives a row from its bytes. Assumes nothing.
-use mathlib.Core.Path.{_≡_, refl, sym, ap, subst, _∙_}
+use mathlib.Core.Path.{_≡_, refl, ap, _∙_}
 use mathlib.Core.Logic.{inl}
-use mathlib.Core.Bool.{Bool, true, false, cond}
+use mathlib.Core.Bool.{true, false, cond}
 use mathlib.Core.List.{List, [], _∷_, _++_, map, append-assoc}
-use Prim.Native.Nat.{ℕ, zero, suc, _+_, _/_, _%_, _<_, _≤_}
+use Prim.Native.Nat.{ℕ, zero, suc, _+_, _/_, _%_, _<_}
 use native.Mathlib.Omega.{arith}
 use lib.Dec.{eqb, ltb}
 use lib.IntN.{ℤ, pos, negsuc}
-use lib.ListN.{length, take}
+use lib.ListN.{take}
 use Rattle.csv.specs.Grammar.{plain, inside, FieldText, plainly, quoted, Plain, Inside, empty, one, Lawful, AllLawful, written, with-commas, Derives}
 use Rattle.csv.specs.Reading.{cut, read-line}
 use Rattle.csv.proofs.Agreement.{derived-reads}
@@ -18,7 +18,7 @@ use Rattle.release.specs.declared.Manner.the-variants.{Released, Reused, Suppre
 use Rattle.std.specs.Written.{decimal, signed, digits, spelled, glyph}
 use Rattle.std.proofs.shelf.Tests.{cond-both, cond-true, lt-ltb}
 use Rattle.std.proofs.shelf.Ways.{tells}
-use Rattle.sheet.specs.Rows.{line-bytes, range-field, attribute-field, attribute-fields, reading-field, row-bytes}
+use Rattle.sheet.specs.Rows.{line-bytes, range-field, attribute-field, attribute-fields, reading-field}
 
 digit-plain : (d : ℕ) → d < 10 → plain (48 + d) ≡ true
 digit-plain d h = grind (arith, tells)

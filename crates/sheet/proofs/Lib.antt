@@ -1,6 +1,6 @@
-mod Answering
-mod Heads
-mod Lawfully
-mod Numbers
-mod Steps
-mod Wholes
+pub mod Answering
+pub mod Heads
+pub mod Lawfully
+pub mod Numbers
+pub mod Steps
+pub mod Wholes

@@ -1,33 +1,32 @@
 -- The numbers that the fields of a row show are those of its line. Assumes nothing.
-use mathlib.Core.Path.{_≡_, refl, sym, ap, subst, _∙_}
+use mathlib.Core.Path.{_≡_, refl, ap, subst, _∙_}
 use mathlib.Core.Logic.{_⊎_, inl, inr, ⊎-elim}
-use mathlib.Core.Bool.{Bool, true, false, cond}
+use mathlib.Core.Bool.{false, cond}
 use mathlib.Core.List.{List, [], _∷_, _++_, map}
-use Prim.Native.Nat.{ℕ, suc, _+_, _^_, _<_, _≤_}
+use Prim.Native.Nat.{ℕ, suc, _+_, _^_, _<_}
 use native.Mathlib.Omega.{arith}
 use lib.Dec.{eqb}
 use lib.IntN.{ℤ, pos, negsuc, negℤ}
-use lib.ListN.{length, getD, take, drop}
+use lib.ListN.{getD, take, drop}
 use lib.Signed.{mag}
 use mir.Syntax.{w32}
 use mir.Val.{SFits}
 use borrow.Author.Differences.{ints}
-use Rattle.csv.specs.Grammar.{FieldText, plainly, quoted}
+use Rattle.csv.specs.Grammar.{plainly, quoted}
 use Rattle.domain.specs.Ranges.{span, point}
 use Rattle.domain.specs.declared.range.Range.{Range}
 use Rattle.release.specs.declared.Line.{Line}
 use Rattle.release.specs.declared.Manner.{Manner}
 use Rattle.release.specs.declared.Manner.the-variants.{Released, Reused, Suppressed}
-use Rattle.std.specs.Reads.{Digits, Numeral, value, minus, afterPlus, afterSign, signedValue}
+use Rattle.std.specs.Reads.{Digits, value, minus, afterPlus, afterSign, signedValue}
 use Rattle.std.specs.Text.{In}
 use Rattle.std.specs.Written.{decimal, signed}
-use Rattle.std.specs.declared.option.Option.{Option}
 use Rattle.std.specs.declared.option.Option.the-variants.{None, Some}
 use Rattle.std.specs.shelf.Lists.{All}
 use Rattle.std.proofs.shelf.Decimals.{decimal-reads}
-use Rattle.std.proofs.shelf.Numerals.{digit-from-value, digit-at, afterPlus-none}
+use Rattle.std.proofs.shelf.Numerals.{digit-from-value, digit-at}
 use Rattle.std.proofs.shelf.Tests.{cond-true, cond-false, cond-both, eqb-true, eq-eqb, ne-eqb}
-use Rattle.sheet.specs.Rows.{range-field, attribute-field, attribute-fields, reading-field}
+use Rattle.sheet.specs.Rows.{range-field, attribute-field}
 use Rattle.sheet.specs.Shown.{bytes-before, bytes-behind, shown-range, told-range, Small, Shown}
 
 no-digit-is : (c b : ℕ) → In 48 57 c → (In 48 57 b → ⊥) → eqb c b ≡ false

@@ -1,17 +1,17 @@
 -- A whole sheet is read back line by line. Assumes nothing.
 use mathlib.Core.Path.{_≡_, refl, sym, ap, subst, _∙_}
-use mathlib.Core.List.{List, [], _∷_, _++_, map, append-assoc, append-nil}
-use Prim.Native.Nat.{ℕ, _+_, _<_, _≤_}
+use mathlib.Core.List.{List, [], _∷_, _++_, map}
+use Prim.Native.Nat.{ℕ, _+_, _<_}
 use native.Mathlib.Omega.{arith}
 use lib.ListN.{length, length-append}
-use Rattle.csv.specs.Grammar.{FieldText, Lawful, AllLawful, written, with-commas, Derives}
-use Rattle.csv.specs.Reading.{cut, read-line}
+use Rattle.csv.specs.Grammar.{FieldText, Lawful, AllLawful}
+use Rattle.csv.specs.Reading.{cut}
 use Rattle.csv.proofs.Agreement.{derived-reads}
 use Rattle.release.specs.declared.Line.{Line}
 use Rattle.std.specs.shelf.Lists.{joined}
 use Rattle.sheet.specs.Rows.{line-bytes, attribute-fields, reading-field, row-bytes}
 use Rattle.sheet.specs.Files.{File, at-end, one-more, ReadBack}
-use Rattle.sheet.specs.Sheets.{row-fields, Wrote, GivesBack}
+use Rattle.sheet.specs.Sheets.{row-fields, GivesBack}
 use Rattle.sheet.proofs.Lawfully.{row-lawful, line-derives}
 
 some-bytes : (front : List FieldText) (last : FieldText) (rest : List ℕ) → 0 < length (line-bytes front last ++ rest)

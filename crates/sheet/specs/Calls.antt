@@ -21,15 +21,17 @@ use Rattle.sheet.specs.Rows.{line-bytes}
 abbrev pub second-line : ℕ → TextFault
 second-line byte = NotAllowed (record { line = 2; column = 1; byte = byte }) byte
 
--- a header of this size whose front was read so, on a sheet of this width, for an area with this room: the bytes
+-- a header's line of this size in an area with this room
+abbrev pub room-answer : (room size : ℕ) → Result ℕ HeaderFault
+room-answer room size = cond (ltb room size) (Err (header.AreaTooShort size)) (Ok size)
+
+-- a header of this size whose first line was read so, on a sheet of this width, for an area with this room: the bytes
 -- written or the refusal
 abbrev pub header-answer : (width room size : ℕ) → LineRead → Result ℕ HeaderFault
 header-answer width room size (damaged front w n) = Err (header.Text (text-fault (field-behind 1 0 front) w n))
 header-answer width room size (cut front last rest) =
     cond (ltb 0 (length rest)) (Err (header.Text (second-line (size - length rest))))
-    (cond (eqb (length front) width)
-    (cond (ltb room (length (line-bytes front last))) (Err (header.AreaTooShort (length (line-bytes front last)))) (Ok (length (line-bytes front last))))
-    (Err (header.Fields (length front + 1) (width + 1))))
+    (cond (eqb (length front) width) (room-answer room (length (line-bytes front last))) (Err (header.Fields (length front + 1) (width + 1))))
 
 -- a row of this size on a sheet with so many rows
 abbrev pub row-answer : (rows room size : ℕ) → Result ℕ RowFault

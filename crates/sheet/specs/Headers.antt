@@ -1,6 +1,6 @@
 -- The text of a header without the end of its line. Assumes nothing.
-use mathlib.Core.Bool.{Bool, cond, false, _&&_}
-use mathlib.Core.List.{List, [], _∷_}
+use mathlib.Core.Bool.{Bool, cond, _&&_}
+use mathlib.Core.List.{List}
 use Prim.Native.Nat.{ℕ, _-_}
 use lib.Dec.{eqb, leb}
 use lib.ListN.{length, getD, take}

@@ -1,12 +1,15 @@
 // A header: whether its text is one line of the right number of fields, and its copy in a text area.
 ghost use mathlib.Core.Path.{_≡_};
 ghost use mathlib.Core.List.{[], _∷_, _++_};
-ghost use Prim.Native.Nat.{_+_, _≤_, _<_, _^_};
+ghost use Prim.Native.Nat.{_+_, _≤_, _<_};
 ghost use lib.ListN.{length, drop};
 ghost use Rattle.csv.specs.Reading.{read-line};
-ghost use Rattle.sheet.specs.Calls.{header-answer, second-line};
-ghost use Rattle.sheet.specs.Limits.{max-width};
+ghost use Rattle.sheet.specs.Calls.{header-answer, second-line, area-after};
 ghost use Rattle.sheet.specs.Headers.{without-line-end};
+ghost use Rattle.sheet.specs.Limits.{max-width};
+ghost use Rattle.sheet.specs.Rows.{bytes-of};
+ghost use Rattle.sheet.specs.Sheets.{Headed};
+ghost use Rattle.std.specs.Vec.{made};
 use crate::digits::put_byte;
 use crate::faults::HeaderFault;
 use crate::faults::HeaderFaultFromText;
@@ -24,7 +27,7 @@ fn content(text: &[u8]) -> &[u8]
 }
 
 // The size of the header's line, or why it is turned away.
-pub(crate) fn header_size(width: usize, header: &[u8], room: usize) -> Result<usize, HeaderFault>
+fn header_size(width: usize, header: &[u8], room: usize) -> Result<usize, HeaderFault>
     requires { ⌜ width ≤ max-width ⌝ }
     ensures { λ r. ⌜ r ≡ header-answer width room (length (now (header .entry))) (read-line (now (header .entry))) ⌝ }
 {
@@ -59,7 +62,7 @@ fn second_line(byte: usize) -> TextFault
 }
 
 // Copies the header's line to the area's start, with CR LF behind it.
-pub(crate) fn put_header(area: &mut [u8], header: &[u8])
+fn put_header(area: &mut [u8], header: &[u8])
     requires { ⌜ length (without-line-end (now header)) + 2 ≤ length (now area) ⌝ }
     ensures { λ _. ⌜ now (area .exit) ≡ without-line-end (now (header .entry)) ++ 13 ∷ 10 ∷ drop (length (without-line-end (now (header .entry))) + 2) (now (area .entry)) ⌝ }
 {
@@ -68,4 +71,20 @@ pub(crate) fn put_header(area: &mut [u8], header: &[u8])
     area[0..end].copy_from_slice(line);
     let feed = put_byte(area, end, b'\r');
     put_byte(area, feed, b'\n');
+}
+
+// Writes the line of the header to the area's start, for a sheet of this width.
+pub(crate) fn write_header(
+    width: usize,
+    header: &[u8],
+    area: &mut [u8],
+) -> Result<usize, HeaderFault>
+    requires { ⌜ width ≤ max-width ⌝ }
+    ensures answer { λ r. ⌜ r ≡ header-answer width (length (now (area .entry))) (length (now (header .entry))) (read-line (now (header .entry))) ⌝ }
+    ensures area { λ r. ⌜ now (area .exit) ≡ area-after (bytes-of (read-line (now (header .entry)))) (now (area .entry)) r ⌝ }
+    ensures back { λ r. ⌜ made r (λ n. Headed width (now (header .entry)) n (now (area .entry)) (now (area .exit))) ⌝ }
+{
+    let size = header_size(width, header, area.len())?;
+    put_header(area, header);
+    Ok(size)
 }

@@ -22,6 +22,8 @@ pub use faults::RowFaultDebug;
 pub use faults::RowFaultDisplay;
 pub use faults::RowFaultEq;
 pub use faults::RowFaultPartialEq;
+pub use rows::MAX_ROW;
+pub use rows::MAX_ROWS;
 pub use sheets::BareSheet;
 pub use sheets::BareSheetDebug;
 pub use sheets::EndedSheet;
@@ -30,7 +32,6 @@ pub use sheets::HeadedSheet;
 pub use sheets::HeadedSheetDebug;
 pub use sheets::HeaderRefused;
 pub use sheets::HeaderRefusedDebug;
-pub use sheets::MAX_ROWS;
 
 #[cfg(test)]
 mod tests;

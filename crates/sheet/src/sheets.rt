@@ -6,7 +6,6 @@ mod calls;
 
 pub use calls::HeaderRefused;
 pub use calls::HeaderRefusedDebug;
-pub use calls::MAX_ROWS;
 
 // A sheet that waits for its header.
 #[derive(Debug, Drop)]

@@ -4,7 +4,7 @@ ghost use Prim.Native.Nat.{_<_, _≤_};
 ghost use lib.ListN.{length, take};
 ghost use Rattle.csv.specs.Reading.{read-line};
 ghost use Rattle.sheet.specs.Calls.{header-answer, row-answer, rows-after, area-after};
-ghost use Rattle.sheet.specs.Limits.{max-width};
+ghost use Rattle.sheet.specs.Limits.{max-width, max-row};
 ghost use Rattle.sheet.specs.Rows.{bytes-of, row-bytes};
 ghost use Rattle.sheet.specs.Sheets.{Headed, RowBack, GoesOn, GivesBack};
 ghost use Rattle.sheet.specs.Told.{told-header};
@@ -17,15 +17,10 @@ use crate::faults::BeginFault;
 use crate::faults::HeaderFault;
 use crate::faults::HeaderFaultDebug;
 use crate::faults::RowFault;
-use crate::headers::header_size;
-use crate::headers::put_header;
-use crate::rows::put_row;
-use crate::rows::row_size;
+use crate::headers::write_header;
+use crate::rows::write_row;
 use crate::sheets::BareSheetDebug;
 use release::Line;
-
-// The most rows that a sheet may have.
-pub const MAX_ROWS: u32 = 4_000_000_000;
 
 // A sheet is as wide as a box has places at most.
 const MAX_WIDTH: usize = domain::PLACES;
@@ -55,17 +50,14 @@ impl BareSheet {
         ensures sheet { λ r. ⌜ Cases r (λ t. (t .0 .width ≡ self .width) × (t .0 .rows ≡ 0)) (λ e. e .sheet ≡ self) ⌝ }
         ensures back { λ r. ⌜ made r (λ t. Headed (self .width) (now (header .entry)) (t .1) (now (area .entry)) (now (area .exit))) ⌝ }
     {
-        match header_size(self.width, header, area.len()) {
-            Ok(size) => {
-                put_header(area, header);
-                Ok((
-                    HeadedSheet {
-                        width: self.width,
-                        rows: 0,
-                    },
-                    size,
-                ))
-            }
+        match write_header(self.width, header, area) {
+            Ok(size) => Ok((
+                HeadedSheet {
+                    width: self.width,
+                    rows: 0,
+                },
+                size,
+            )),
             Err(fault) => Err(HeaderRefused { sheet: self, fault }),
         }
     }
@@ -75,22 +67,24 @@ impl HeadedSheet {
     // Writes the row of a line to the area's start: the ranges of the sheet's attributes, then the reading.
     pub fn row(&mut self, line: &Line, area: &mut [u8]) -> Result<usize, RowFault>
         ensures answer { λ r. ⌜ r ≡ row-answer (now (self .entry) .rows) (length (now (area .entry))) (length (row-bytes (now (self .entry) .width) (now (line .entry)))) ⌝ }
+        ensures most { λ _. ⌜ length (row-bytes (now (self .entry) .width) (now (line .entry))) ≤ max-row ⌝ }
         ensures area { λ r. ⌜ now (area .exit) ≡ area-after (row-bytes (now (self .entry) .width) (now (line .entry))) (now (area .entry)) r ⌝ }
         ensures width { λ _. ⌜ now (self .exit) .width ≡ now (self .entry) .width ⌝ }
         ensures rows { λ r. ⌜ now (self .exit) .rows ≡ rows-after (now (self .entry) .rows) r ⌝ }
         ensures back { λ r. ⌜ made r (λ n. RowBack (now (self .entry) .width) (now (line .entry)) n (now (area .entry)) (now (area .exit))) ⌝ }
         ensures goes_on { λ r. ⌜ made r (λ n. GoesOn (now (self .entry) .width) (now (self .entry) .rows) (now (self .exit) .width) (now (self .exit) .rows) (now (line .entry)) (take n (now (area .exit)))) ⌝ }
     {
-        if self.rows >= MAX_ROWS {
-            return Err(RowFault::Full);
-        }
-        let needed = row_size(self.width, line);
-        if area.len() < needed {
-            return Err(RowFault::AreaTooShort { needed });
-        }
-        put_row(area, self.width, line);
+        let size = write_row(self.width, self.rows, line, area)?;
         self.rows += 1;
-        Ok(needed)
+        Ok(size)
+    }
+
+    // The rows so far.
+    fn count(&self) -> u32
+        ensures value { λ r. ⌜ r ≡ now (self .entry) .rows ⌝ }
+        ensures back { λ _. ⌜ GivesBack (now (self .entry) .width) (now (self .entry) .rows) ⌝ }
+    {
+        self.rows
     }
 
     // Ends the sheet.
@@ -98,7 +92,9 @@ impl HeadedSheet {
         ensures rows { λ r. ⌜ r .total ≡ self .rows ⌝ }
         ensures back { λ _. ⌜ GivesBack (self .width) (self .rows) ⌝ }
     {
-        EndedSheet { total: self.rows }
+        EndedSheet {
+            total: self.count(),
+        }
     }
 }
 

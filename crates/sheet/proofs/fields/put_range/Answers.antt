@@ -1,9 +1,8 @@
 use native.Mathlib.Omega.{arith}
 use mathlib.Core.Path.{sym, ap, _∙_}
 use mathlib.Core.List.{_++_}
-use lib.ListN.{length}
 use Rattle.std.specs.Written.{decimal}
-use Rattle.sheet.proofs.Steps.{range-same, range-apart, range-long, range-chain, holds-as}
+use Rattle.sheet.proofs.Steps.{range-apart, range-long, range-chain, holds-as}
 use Rattle.sheet.proofs.fields.put_range.Needs as need
 
 pub put-number-comma-requires : need.put-number-comma-requires

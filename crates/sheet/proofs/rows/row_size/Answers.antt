@@ -17,5 +17,6 @@ returns c =
     let fit : SFits w32 (line .reading) = search needs in
     record {
       value = omega (arith, row-long (c .args .width) line _ same);
+      bound = omega arith;
       shown = row-shown (c .args .width) line (subst (λ n. All Small (take n (line .ranges))) (less-none (c .args .width)) (c .attributes-size .ensures .small)) (mag-small (line .reading) fit);
     }
