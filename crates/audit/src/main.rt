@@ -1,4 +1,6 @@
 // Runs streams over the workloads and audits what they write.
+#![tactic(auto)]
+
 mod audit;
 mod book;
 mod crowd;

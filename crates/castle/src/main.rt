@@ -1,4 +1,6 @@
 // Tells of each report line on standard input what was taken from it, or why and where it was turned away.
+#![tactic(auto)]
+
 use anyhow::anyhow;
 use filter::{Entry, LIMIT, survey};
 use std::io::Read;

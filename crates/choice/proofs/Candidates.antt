@@ -1,6 +1,6 @@
 -- The offers of a table's clusters come to what the rules say of an arrival.
 use Rattle.std.proofs.Common.{◌≡◌, ℕ, ◌+◌, ◌-◌, ◌*◌, ◌<◌, Bool, ltb, leb, ◌⊎◌, List, [], ◌∷◌, ◌++◌, map, length, IfSome, IfNone, Some, None, sum, filter, Option, sym, refl, ap, ◌∙◌, subst, inl, inr, ⊎_elim, arith}
-use Rattle.std.specs.List.{range_with_len, AllByRecursion as All}
+use Rattle.std.specs.List.{range_with_len, AllByRecursion}
 use Rattle.std.specs.Option.{option_map}
 use Rattle.std.proofs.ByRecursion.{All-map, all_kept_by, All-weaker}
 use Rattle.std.proofs.lemmas.Bool.{ltb-true, cond_both}
@@ -83,7 +83,7 @@ module _ (m : Meaning) (s : State) (e : Entry) (mean : Mean) (cs : List Cluster)
         fit = ap (at_most_mean s.boxes.losses) loss ∙ ap (λ k. leb (loss_read m (row cs i) (values e) * k) (sum s.boxes.losses)) (sym of.counts) ∙ ap (leb (loss_read m (row cs i) (values e) * mean.count)) (sym of.sums);
       }
 
-  agree : All (λ o. Agrees m s e (label_of cs o) o) (all_offers m mean e cs)
+  agree : AllByRecursion (λ o. Agrees m s e (label_of cs o) o) (all_offers m mean e cs)
   agree = All-map _ (offer_at m mean (values e) cs) (range_with_len 0 (length cs)) (all_counting (λ i. Agrees m s e (label_at cs i) (offer_at m mean (values e) cs i)) (length cs) agrees_at)
 
   open_by_place : clusters s.held ≡ map (label_of cs) (all_offers m mean e cs)
@@ -95,10 +95,10 @@ module _ (m : Meaning) (s : State) (e : Entry) (mean : Mean) (cs : List Cluster)
       ap (minimal (λ c. raise m (members c s.held) (e ∷ []))) open_by_place
       ∙ minimal_through (label_of cs) (λ c. raise m (members c s.held) (e ∷ [])) (λ o. o.raise) (all_offers m mean e cs) (All-weaker _ _ (λ o g. g.raises) (all_offers m mean e cs) agree)
 
-  agree_lightest : All (λ o. Agrees m s e (label_of cs o) o) (lightest (all_offers m mean e cs))
+  agree_lightest : AllByRecursion (λ o. Agrees m s e (label_of cs o) o) (lightest (all_offers m mean e cs))
   agree_lightest = all_kept_by _ _ (all_offers m mean e cs) agree
 
-  smallest_by_place : (xs : List Offer) → All (λ o. Agrees m s e (label_of cs o) o) xs → smallest s (map (label_of cs) xs) ≡ option_map (label_of cs) (smallest_of xs)
+  smallest_by_place : (xs : List Offer) → AllByRecursion (λ o. Agrees m s e (label_of cs o) o) xs → smallest s (map (label_of cs) xs) ≡ option_map (label_of cs) (smallest_of xs)
   smallest_by_place xs h = least_through (label_of cs) (λ c. size (members c s.held)) (λ o. o.size) xs (All-weaker _ _ (λ o g. g.sizes) xs h)
 
   fitting_by_place : fitting m s e ≡ map (label_of cs) (filter (λ o. o.fits) (lightest (all_offers m mean e cs)))

@@ -1,7 +1,7 @@
 -- The first of the least: one element more at the end of the list, and the same choice through a function.
 use Rattle.std.proofs.Common.{◌≡◌, ℕ, ◌+◌, ◌<◌, ◌≤◌, min, Bool, true, false, cond, eqb, ◌⊎◌, List, [], ◌∷◌, ◌++◌, map, length, Some, None, filter, sym, refl, ap, ◌∙◌, inl, inr, ⊎_elim, arith}
 use Rattle.std.specs.Option.{option_map}
-use Rattle.std.specs.List.{AllByRecursion as All}
+use Rattle.std.specs.List.{AllByRecursion}
 use Rattle.std.proofs.lemmas.List.{append-nil}
 use Rattle.std.proofs.lemmas.List.Elements.{filter-append}
 use Rattle.std.proofs.ByRecursion.{All-weaker}
@@ -12,11 +12,11 @@ use Rattle.rules.proofs.Numbers.{lowest_le, minimal_some}
 use Rattle.choice.proofs.Labels.{kept_map}
 
 module _ {X : Type 0} where
-  pub kept_same : (p q : X → Bool) (xs : List X) → All (λ x. p x ≡ q x) xs → filter p xs ≡ filter q xs
+  pub kept_same : (p q : X → Bool) (xs : List X) → AllByRecursion (λ x. p x ≡ q x) xs → filter p xs ≡ filter q xs
   kept_same p q [] a = refl
   kept_same p q (x ∷ xs) a = ap (λ b. cond b (x ∷ filter p xs) (filter p xs)) a.0 ∙ ap (λ ys. cond (q x) (x ∷ ys) ys) (kept_same p q xs a.1)
 
-  kept_none : (p : X → Bool) (xs : List X) → All (λ x. p x ≡ false) xs → filter p xs ≡ []
+  kept_none : (p : X → Bool) (xs : List X) → AllByRecursion (λ x. p x ≡ false) xs → filter p xs ≡ []
   kept_none p [] a = refl
   kept_none p (x ∷ xs) a = ap (λ b. cond b (x ∷ filter p xs) (filter p xs)) a.0 ∙ kept_none p xs a.1
 
@@ -106,18 +106,18 @@ module _ {X Y : Type 0} (f : X → Y) where
   head_map [] = refl
   head_map (x ∷ xs) = refl
 
-  lowest_map : (key : Y → ℕ) (own : X → ℕ) (xs : List X) → All (λ x. key (f x) ≡ own x) xs → lowest key (map f xs) ≡ lowest own xs
+  lowest_map : (key : Y → ℕ) (own : X → ℕ) (xs : List X) → AllByRecursion (λ x. key (f x) ≡ own x) xs → lowest key (map f xs) ≡ lowest own xs
   lowest_map key own [] a = refl
   lowest_map key own (x ∷ []) a = a.0
   lowest_map key own (x ∷ z ∷ zs) a = let ih = lowest_map key own (z ∷ zs) a.1 in omega (arith, ih, a.0)
 
-  pub kept_through : (p : Y → Bool) (q : X → Bool) (xs : List X) → All (λ x. p (f x) ≡ q x) xs → filter p (map f xs) ≡ map f (filter q xs)
+  pub kept_through : (p : Y → Bool) (q : X → Bool) (xs : List X) → AllByRecursion (λ x. p (f x) ≡ q x) xs → filter p (map f xs) ≡ map f (filter q xs)
   kept_through p q xs a = kept_map p f xs ∙ ap (map f) (kept_same (λ x. p (f x)) q xs a)
 
-  pub minimal_through : (key : Y → ℕ) (own : X → ℕ) (xs : List X) → All (λ x. key (f x) ≡ own x) xs → minimal key (map f xs) ≡ map f (minimal own xs)
+  pub minimal_through : (key : Y → ℕ) (own : X → ℕ) (xs : List X) → AllByRecursion (λ x. key (f x) ≡ own x) xs → minimal key (map f xs) ≡ map f (minimal own xs)
   minimal_through key own xs a =
       low key (map f xs) (lowest own xs) (lowest_map key own xs a)
       ∙ kept_through (λ y. eqb (key y) (lowest own xs)) (λ x. eqb (own x) (lowest own xs)) xs (All-weaker _ _ (λ x e. ap (λ k. eqb k (lowest own xs)) e) xs a)
 
-  pub least_through : (key : Y → ℕ) (own : X → ℕ) (xs : List X) → All (λ x. key (f x) ≡ own x) xs → least key (map f xs) ≡ option_map f (least own xs)
+  pub least_through : (key : Y → ℕ) (own : X → ℕ) (xs : List X) → AllByRecursion (λ x. key (f x) ≡ own x) xs → least key (map f xs) ≡ option_map f (least own xs)
   least_through key own xs a = ap head (minimal_through key own xs a) ∙ head_map (minimal own xs)

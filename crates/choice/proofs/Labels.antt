@@ -1,6 +1,6 @@
 -- The labels of the table, and what its rows tell of the held records.
 use Rattle.std.proofs.Common.{◌≡◌, ℕ, zero, suc, ◌<◌, ◌≤◌, Bool, true, false, cond, eqb, ltb, List, [], ◌∷◌, map, length, get_or, filter, sym, refl, ap, ◌∙◌, subst, inl, inr, ⊎_elim, arith}
-use Rattle.std.specs.List.{range_with_len, AllByRecursion as All}
+use Rattle.std.specs.List.{range_with_len, AllByRecursion}
 use Rattle.std.proofs.lemmas.List.{get_or-map, length-map}
 use Rattle.std.proofs.lemmas.List.FromFn.{length-range_with_len, get_or-range_with_len, fill_by_all}
 use Rattle.std.proofs.ByRecursion.{All-from_get_or}
@@ -70,7 +70,7 @@ larger_table m hs c n cs e s =
 
 -- ---- rows of a table
 
-pub all_counting : (P : ℕ → Type 0) (n : ℕ) → ((i : ℕ) → i < n → P i) → All P (range_with_len 0 n)
+pub all_counting : (P : ℕ → Type 0) (n : ℕ) → ((i : ℕ) → i < n → P i) → AllByRecursion P (range_with_len 0 n)
 all_counting P n h =
     All-from_get_or P (range_with_len 0 n) 0
     (λ i l. let l' : i < n = omega (arith, length-range_with_len 0 n) in subst P (sym (get_or-range_with_len 0 n i 0 l' ∙ omega arith)) (h i l'))

@@ -1,7 +1,7 @@
 -- The choices of the rules, of places in a table that is that of the held records. Assumes nothing.
 use Rattle.std.specs.Prelude.{◌≡◌, ℕ, ◌<◌, List, length, Option}
 use Rattle.std.specs.Option.{option_map}
-use Rattle.std.specs.List.{AllByRecursion as All}
+use Rattle.std.specs.List.{AllByRecursion}
 use Rattle.domain.specs.Meaning.{Meaning}
 use Rattle.release.specs.declared.Settings.{Settings}
 use Rattle.rules.specs.declared.Entry.{Entry}
@@ -19,7 +19,7 @@ use Rattle.choice.specs.Places.{home_of}
 
 -- held records have admitted values
 abbrev pub AllFit : Meaning → List Held → Type 0
-AllFit m hs = All (λ h. Fit m h.entry) hs
+AllFit m hs = AllByRecursion (λ h. Fit m h.entry) hs
 
 -- the place of the cluster that takes the record
 abbrev pub Takes : Meaning → List Cluster → Mean → ℕ → List ℕ → Option ℕ → Type 0

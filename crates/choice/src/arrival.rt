@@ -116,7 +116,7 @@ pub fn taker<D: Domain>(
 ) -> Option<usize>
     ensures within { IfSome result (λ i. i < length clusters.now) }
     ensures room { IfNone result ((length clusters.now < beta) ⊎ (length clusters.now ≡ 0)) }
-    ensures home { Takes (meaning d.now) clusters.now mean beta values.now result }
+    ensures home { Takes (D.meaning d.now) clusters.now mean beta values.now result }
 {
     let mut choice = Choice {
         candidate: None,

@@ -31,7 +31,7 @@ fn lower(best: Option<Rise>, rise: Rise) -> Option<Rise>
 
 // The loss of the least box that contains both. No box is built.
 fn loss_joined<D: Domain>(d: &D, a: &[Range; PLACES], b: &[Range; PLACES]) -> u32
-    ensures { result ≡ box_loss (meaning d.now) (join_boxes (meaning d.now) a.now b.now) }
+    ensures { result ≡ box_loss (D.meaning d.now) (join_boxes (D.meaning d.now) a.now b.now) }
 {
     let mut sum = 0;
     for i in 0..d.width().min(PLACES) {
@@ -44,7 +44,7 @@ fn loss_joined<D: Domain>(d: &D, a: &[Range; PLACES], b: &[Range; PLACES]) -> u3
 pub fn easiest<D: Domain>(d: &D, clusters: &[Cluster], at: usize) -> Option<usize>
     ensures other { MatchOption result ((length clusters.now ≤ 1) ⊎ (length clusters.now ≤ at)) (λ j. (j < length clusters.now) × (j ≢ at)) }
     ensures outside { length clusters.now ≤ at → result ≡ None }
-    ensures rule { Joins (meaning d.now) clusters.now at result }
+    ensures rule { Joins (D.meaning d.now) clusters.now at result }
 {
     if at >= clusters.len() {
         return None;

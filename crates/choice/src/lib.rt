@@ -1,4 +1,6 @@
 // The choices of the rules among the open clusters, read from their table.
+#![tactic(auto)]
+
 mod arrival;
 mod joining;
 mod losses;

@@ -1,6 +1,6 @@
 -- Boxes place by place, and their laws from those of each attribute.
 use Rattle.std.proofs.Common.{◌≡◌, ℕ, zero, suc, ◌+◌, ◌*◌, ◌<◌, ◌≤◌, min, Bool, true, false, cond, ◌&&◌, ◌||◌, ltb, leb, List, [], ◌∷◌, map, length, get_or, sum, sym, refl, ap, ◌∙◌, subst, ⊎_elim, arith}
-use Rattle.std.specs.List.{range_with_len, AllByRecursion as All}
+use Rattle.std.specs.List.{range_with_len, AllByRecursion}
 use Rattle.std.proofs.lemmas.List.FromFn.{length-range_with_len, length-map-range_with_len, fill_by_all, get_or-range_with_len, get_or-map-range_with_len, sum_by-map-range_with_len_more}
 use Rattle.std.proofs.lemmas.List.{same_lists, get_or_default, get_or_past}
 use Rattle.std.proofs.ByRecursion.{All-get_or, All-from_get_or}
@@ -47,11 +47,11 @@ join_least m i a b k p q = subst (Least (m.attribute i).allowed a b) (sym (join_
 
 -- ---- tests of each and sums over `counting`
 
-pub all_pass_from : {X : Type 0} (p : X → Bool) (xs : List X) → All (λ x. p x ≡ true) xs → all_pass p xs ≡ true
+pub all_pass_from : {X : Type 0} (p : X → Bool) (xs : List X) → AllByRecursion (λ x. p x ≡ true) xs → all_pass p xs ≡ true
 all_pass_from p [] h = refl
 all_pass_from p (x ∷ xs) h = and_from (p x) (all_pass p xs) h.0 (all_pass_from p xs h.1)
 
-pub all_pass_tells : {X : Type 0} (p : X → Bool) (xs : List X) → all_pass p xs ≡ true → All (λ x. p x ≡ true) xs
+pub all_pass_tells : {X : Type 0} (p : X → Bool) (xs : List X) → all_pass p xs ≡ true → AllByRecursion (λ x. p x ≡ true) xs
 all_pass_tells p [] h = tt
 all_pass_tells p (x ∷ xs) h = let q = and_parts (p x) (all_pass p xs) h in (q.0, all_pass_tells p xs q.1)
 

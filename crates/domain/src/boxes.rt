@@ -10,8 +10,8 @@ use crate::{Domain, PLACES, Range};
 
 // The least box that covers one record's values.
 pub fn point_box<D: Domain>(d: &D, values: &[u32; PLACES]) -> [Range; PLACES]
-    ensures value { result ≡ point_box (meaning d.now) values.now }
-    ensures least { Admitted (meaning d.now) values.now → LeastCover (meaning d.now) values.now result }
+    ensures value { result ≡ point_box (D.meaning d.now) values.now }
+    ensures least { Admitted (D.meaning d.now) values.now → LeastCover (D.meaning d.now) values.now result }
 {
     let mut bounds = [Range::point(0); PLACES];
     for i in 0..d.width().min(PLACES) {
@@ -22,10 +22,10 @@ pub fn point_box<D: Domain>(d: &D, values: &[u32; PLACES]) -> [Range; PLACES]
 
 // The least box that contains both.
 pub fn join_boxes<D: Domain>(d: &D, a: &[Range; PLACES], b: &[Range; PLACES]) -> [Range; PLACES]
-    ensures value { result ≡ join_boxes (meaning d.now) a.now b.now }
-    ensures least { Allowed (meaning d.now) a.now → Allowed (meaning d.now) b.now → LeastBox (meaning d.now) a.now b.now result }
-    ensures covering { Allowed (meaning d.now) a.now → Allowed (meaning d.now) b.now → CoversBoth (meaning d.now) a.now b.now result }
-    ensures laws { BoxSemilattice (meaning d.now) }
+    ensures value { result ≡ join_boxes (D.meaning d.now) a.now b.now }
+    ensures least { Allowed (D.meaning d.now) a.now → Allowed (D.meaning d.now) b.now → LeastBox (D.meaning d.now) a.now b.now result }
+    ensures covering { Allowed (D.meaning d.now) a.now → Allowed (D.meaning d.now) b.now → CoversBoth (D.meaning d.now) a.now b.now result }
+    ensures laws { BoxSemilattice (D.meaning d.now) }
     ensures examples { BoxExamples }
 {
     let mut joined = *a;
@@ -37,8 +37,8 @@ pub fn join_boxes<D: Domain>(d: &D, a: &[Range; PLACES], b: &[Range; PLACES]) ->
 
 // Makes the box the least one that contains it and covers the values.
 pub fn widen<D: Domain>(d: &D, bounds: &mut [Range; PLACES], values: &[u32; PLACES])
-    ensures value { bounds.new ≡ join_boxes (meaning d.now) bounds.old (point_box (meaning d.now) values.now) }
-    ensures least { Allowed (meaning d.now) bounds.old → Admitted (meaning d.now) values.now → LeastWider (meaning d.now) bounds.old values.now bounds.new }
+    ensures value { bounds.new ≡ join_boxes (D.meaning d.now) bounds.old (point_box (D.meaning d.now) values.now) }
+    ensures least { Allowed (D.meaning d.now) bounds.old → Admitted (D.meaning d.now) values.now → LeastWider (D.meaning d.now) bounds.old values.now bounds.new }
 {
     for i in 0..d.width().min(PLACES) {
         bounds[i] = d.join(i, bounds[i], Range::point(values[i]));
@@ -47,9 +47,9 @@ pub fn widen<D: Domain>(d: &D, bounds: &mut [Range; PLACES], values: &[u32; PLAC
 
 // The sum of the losses of its ranges.
 pub fn box_loss<D: Domain>(d: &D, bounds: &[Range; PLACES]) -> u32
-    ensures value { result ≡ box_loss (meaning d.now) bounds.now }
-    ensures bound { result ≤ full_loss * known_count (meaning d.now) }
-    ensures least { Allowed (meaning d.now) bounds.now → LosesLeast (meaning d.now) bounds.now result }
+    ensures value { result ≡ box_loss (D.meaning d.now) bounds.now }
+    ensures bound { result ≤ full_loss * known_count (D.meaning d.now) }
+    ensures least { Allowed (D.meaning d.now) bounds.now → LosesLeast (D.meaning d.now) bounds.now result }
 {
     let mut sum = 0;
     for i in 0..d.width().min(PLACES) {
@@ -60,7 +60,7 @@ pub fn box_loss<D: Domain>(d: &D, bounds: &[Range; PLACES]) -> u32
 
 // Whether the box covers the values of the known attributes.
 pub fn covers<D: Domain>(d: &D, bounds: &[Range; PLACES], values: &[u32; PLACES]) -> bool
-    ensures { result ≡ boxes.covers (meaning d.now) bounds.now values.now }
+    ensures { result ≡ boxes.covers (D.meaning d.now) bounds.now values.now }
 {
     let n = d.width().min(PLACES);
     for i in 0..n {

@@ -1,4 +1,6 @@
 // Attribute domains: what a value may be widened to, and what that loses.
+#![tactic(auto)]
+
 ghost use Rattle.std.specs.Prelude.{◌≡◌, ℕ};
 ghost use Rattle.domain.specs.Joins.{Semilattice};
 ghost use Rattle.domain.specs.Meaning.{Meaning, width_of, admits_of, join_of, loss_of};

@@ -11,7 +11,7 @@ pub struct Pair<P, Q> {
 }
 
 impl<P: Domain, Q: Domain> Domain for Pair<P, Q> {
-    ghost meaning = { λ s. pair_meaning (P.Domain.meaning s.left) (Q.Domain.meaning s.right) };
+    ghost meaning = { λ s. pair_meaning (P.meaning s.left) (Q.meaning s.right) };
 
     ghost semilattice = { λ x i. Joins.semilattice _ };
 

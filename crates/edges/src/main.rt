@@ -1,4 +1,6 @@
 // Reads texts at the edges of what a report line may be, and tells what becomes of each line.
+#![tactic(auto)]
+
 ghost use Rattle.std.specs.Prelude.{◌≡◌, ◌+◌, ◌*◌, length, IfOk, vec_len};
 
 use filter::{LIMIT, survey};

@@ -1,4 +1,6 @@
 // What `castle` does with an input, on values.
+#![tactic(auto)]
+
 ghost use Rattle.std.specs.Prelude.{◌≡◌, length, is_ok, filter, MatchResult};
 ghost use Rattle.filter.specs.Surveys.{Surveyed, Refused, refusal_number};
 ghost use Rattle.filter.specs.declared.Refusal.TheVariants.{Memory};

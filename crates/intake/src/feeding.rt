@@ -24,10 +24,10 @@ pub fn feed_report<D: Domain>(
     report: &Report,
     list: &mut [Line],
 ) -> Result<usize, FeedRefusal>
-    ensures refusal { result_err result ≡ options.option_map (at_line report.now) (feed_refusal (D.Domain.meaning stream.old.domain) (view stream.old) (record_of report.now) (length list.old)) }
+    ensures refusal { result_err result ≡ options.option_map (at_line report.now) (feed_refusal (D.meaning stream.old.domain) (view stream.old) (record_of report.now) (length list.old)) }
     ensures unchanged { is_ok result ≡ false → (stream.new ≡ stream.old) × (list.new ≡ list.old) }
     ensures terms { SameTerms stream.old stream.new }
-    ensures goes_on { (h : History) → Leads (D.Domain.meaning stream.old.domain) h stream.old → Goes_on (D.Domain.meaning stream.old.domain) h (feeding (record_of report.now) (length list.old)) (without_line result) list.old list.new stream.new }
+    ensures goes_on { (h : History) → Leads (D.meaning stream.old.domain) h stream.old → Goes_on (D.meaning stream.old.domain) h (feeding (record_of report.now) (length list.old)) (without_line result) list.old list.new stream.new }
 {
     let fed = Record {
         owner: report.owner,
@@ -50,11 +50,11 @@ fn feed_outcome<D: Domain>(
     stream: &mut Stream<D>,
     list: &mut [Line],
 ) -> Result<usize, FeedFault>
-    ensures reason { reason_told result ≡ reason (D.Domain.meaning stream.old.domain) (view stream.old) (length list.old) (told outcome) }
+    ensures reason { reason_told result ≡ reason (D.meaning stream.old.domain) (view stream.old) (length list.old) (told outcome) }
     ensures whole { IfErr outcome (λ e. result ≡ Err (fault.Line e)) }
     ensures unchanged { is_ok result ≡ false → (stream.new ≡ stream.old) × (list.new ≡ list.old) }
     ensures terms { SameTerms stream.old stream.new }
-    ensures goes_on { IfOk outcome (λ x. (h : History) → Leads (D.Domain.meaning stream.old.domain) h stream.old → Fed (D.Domain.meaning stream.old.domain) h x (Some result) list.old list.new stream.new) }
+    ensures goes_on { IfOk outcome (λ x. (h : History) → Leads (D.meaning stream.old.domain) h stream.old → Fed (D.meaning stream.old.domain) h x (Some result) list.old list.new stream.new) }
 {
     let report = outcome?;
     let written = feed_report(stream, &report, list)?;
@@ -68,11 +68,11 @@ pub fn feed_next<'a, D: Domain>(
     stream: &mut Stream<D>,
     list: &mut [Line],
 ) -> Option<Result<usize, FeedFault>>
-    ensures reason { options.option_map reason_told result ≡ options.option_map (reason (D.Domain.meaning stream.old.domain) (view stream.old) (length list.old)) (told_by reader.old) }
+    ensures reason { options.option_map reason_told result ≡ options.option_map (reason (D.meaning stream.old.domain) (view stream.old) (length list.old)) (told_by reader.old) }
     ensures behind { Behind reader.old reader.new }
     ensures unchanged { is_taken result ≡ false → (stream.new ≡ stream.old) × (list.new ≡ list.old) }
     ensures terms { SameTerms stream.old stream.new }
-    ensures goes_on { (x : Report) → told_by reader.old ≡ Some (Ok x) → (h : History) → Leads (D.Domain.meaning stream.old.domain) h stream.old → Fed (D.Domain.meaning stream.old.domain) h x result list.old list.new stream.new }
+    ensures goes_on { (x : Report) → told_by reader.old ≡ Some (Ok x) → (h : History) → Leads (D.meaning stream.old.domain) h stream.old → Fed (D.meaning stream.old.domain) h x result list.old list.new stream.new }
 {
     let outcome = reader.next_line()?;
     Some(feed_outcome(outcome, stream, list))

@@ -1,4 +1,6 @@
 // A stream that is fed from report lines.
+#![tactic(auto)]
+
 mod faults;
 mod feeding;
 

@@ -1,10 +1,10 @@
 -- What one filter leaves of another. Assumes nothing.
 use Rattle.std.proofs.Common.{◌≡◌, Bool, true, false, cond, not, List, [], ◌∷◌, filter, refl, ap, ◌∙◌}
-use Rattle.std.specs.List.{AllByRecursion as All}
+use Rattle.std.specs.List.{AllByRecursion}
 use Rattle.std.proofs.lemmas.Bool.{both_ways}
 
 module _ {X : Type 0} (p : X → Bool) where
-  pub kept_by_none : (xs : List X) → All (λ x. p x ≡ false) xs → filter p xs ≡ []
+  pub kept_by_none : (xs : List X) → AllByRecursion (λ x. p x ≡ false) xs → filter p xs ≡ []
   kept_by_none [] h = refl
   kept_by_none (x ∷ xs) h = ap (λ t. cond t (x ∷ filter p xs) (filter p xs)) h.0 ∙ kept_by_none xs h.1
 

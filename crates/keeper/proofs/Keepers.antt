@@ -1,6 +1,6 @@
 -- A keeper's places, as one list, and what an offer and a reading give. Assumes nothing.
 use Rattle.std.proofs.Common.{◌≡◌, ℕ, zero, suc, ◌+◌, ◌-◌, ◌≤◌, min, Bool, true, false, cond, List, [], ◌∷◌, ◌++◌, length, get_or, take, drop, replicate, filter, sym, refl, ap, ◌∙◌, subst, arith}
-use Rattle.std.specs.List.{prefix_len, AllByRecursion as All}
+use Rattle.std.specs.List.{prefix_len, AllByRecursion}
 use Rattle.std.proofs.lemmas.List.{append-nil, append_assoc, take_all, take_at, drop_at, drop_all, length_push, replicate_more, same_from_push}
 use Rattle.std.proofs.ByRecursion.{All-push, all-has, has_push}
 use Rattle.keeper.specs.declared.Rank.{Rank}
@@ -26,7 +26,7 @@ module _ {X : Type 0} (rank : X → Rank) (empty : X) where
   abbrev pub kept : ℕ → List X → List X
   kept n given = leasts rank n given ++ replicate (n - length given) empty
 
-  pub keeps_from : (places given : List X) → All (λ x. lower (rank x) (rank empty) ≡ true) given → places ≡ kept (length places) given → Keeps rank empty places given
+  pub keeps_from : (places given : List X) → AllByRecursion (λ x. lower (rank x) (rank empty) ≡ true) given → places ≡ kept (length places) given → Keeps rank empty places given
   keeps_from places given a e =
       let n = length places in
       let m : n - length given ≡ n - length (leasts rank n given) = omega (arith, length_leasts rank n given) in
@@ -51,7 +51,7 @@ module _ {X : Type 0} (rank : X → Rank) (empty : X) where
   leading_marks p zero e = refl
   leading_marks p (suc m) e = ap (λ t. cond t (1 + prefix_len p (replicate m empty)) 0) e
 
-  leading_held : (p : X → Bool) (xs ys : List X) → All (λ x. p x ≡ true) xs → prefix_len p ys ≡ 0 → prefix_len p (xs ++ ys) ≡ length xs
+  leading_held : (p : X → Bool) (xs ys : List X) → AllByRecursion (λ x. p x ≡ true) xs → prefix_len p ys ≡ 0 → prefix_len p (xs ++ ys) ≡ length xs
   leading_held p [] ys a e = e
   leading_held p (x ∷ xs) ys a e = ap (λ t. cond t (1 + prefix_len p (xs ++ ys)) 0) a.0 ∙ omega (arith, leading_held p xs ys a.1 e)
 
@@ -132,7 +132,7 @@ module _ {X : Type 0} (rank : X → Rank) (empty : X) where
           let whole : put rank item h ≡ after ++ carried ∷ [] = sym (append-nil (put rank item h)) ∙ ap (λ m. put rank item h ++ replicate m empty) (sym f) ∙ parts in
           let full : n - length (given ++ item ∷ []) ≡ 0 = omega (arith, length_push given item) in
           let low : lower (rank carried) (rank empty) ≡ true =
-          all-has _ (after ++ carried ∷ []) carried (subst (All (λ x. lower (rank x) (rank empty) ≡ true)) whole (all_put rank _ item h l (all_leasts rank _ n given k.above))) (has_push after carried) in
+          all-has _ (after ++ carried ∷ []) carried (subst (AllByRecursion (λ x. lower (rank x) (rank empty) ≡ true)) whole (all_put rank _ item h l (all_leasts rank _ n given k.above))) (has_push after carried) in
           taken before given after item out l k long
           (sym (take_at after (carried ∷ []) n long) ∙ ap (take n) (sym whole) ∙ sym (leasts_push rank n item given) ∙ sym (append-nil _) ∙ ap (λ m. leasts rank n (given ++ item ∷ []) ++ replicate m empty) (sym full))
           (o ∙ ap (λ t. cond t (carried ∷ []) []) low ∙ sym (drop_at after (carried ∷ []) n long) ∙ ap (drop n) (sym whole))
@@ -147,10 +147,10 @@ module _ {X : Type 0} (rank : X → Rank) (empty : X) where
           (sym apart.0 ∙ ap (λ r. r ++ replicate m empty) (sym (take_all n (put rank item h) short) ∙ sym (leasts_push rank n item given)) ∙ ap (λ j. leasts rank n (given ++ item ∷ []) ++ replicate j empty) (sym free'))
           (o ∙ ap (λ x. cond (lower (rank x) (rank empty)) (x ∷ []) []) (sym apart.1) ∙ ap (λ t. cond t (empty ∷ []) []) (not_lower_itself (rank empty)) ∙ sym (drop_all n (put rank item h) short))
 
-  put_nowhere : (item : X) (places : List X) → All (λ x. lower (rank item) (rank x) ≡ false) places → put rank item places ≡ places ++ item ∷ []
+  put_nowhere : (item : X) (places : List X) → AllByRecursion (λ x. lower (rank item) (rank x) ≡ false) places → put rank item places ≡ places ++ item ∷ []
   put_nowhere item [] a = refl
   put_nowhere item (x ∷ xs) a = ap (λ t. cond t (item ∷ x ∷ xs) (x ∷ put rank item xs)) a.0 ∙ ap (λ l. x ∷ l) (put_nowhere item xs a.1)
 
   -- an item that none of the places gives way to
-  pub stays_from : (before after : List X) (item carried : X) → put rank item before ≡ after ++ carried ∷ [] → All (λ x. lower (rank item) (rank x) ≡ false) before → (after ≡ before) × (carried ≡ item)
+  pub stays_from : (before after : List X) (item carried : X) → put rank item before ≡ after ++ carried ∷ [] → AllByRecursion (λ x. lower (rank item) (rank x) ≡ false) before → (after ≡ before) × (carried ≡ item)
   stays_from before after item carried e a = same_from_push after before carried item (sym e ∙ put_nowhere item before a)

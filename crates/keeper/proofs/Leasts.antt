@@ -1,6 +1,6 @@
 -- `leasts` computes the n least: what `Least` says holds of it and of no other list. Assumes nothing.
 use Rattle.std.proofs.Common.{◌≡◌, ℕ, zero, suc, ◌+◌, ◌<◌, ◌≤◌, min, Bool, true, false, cond, not, List, [], ◌∷◌, ◌++◌, map, length, take, drop, filter, sym, refl, ap, ◌∙◌, subst, ⊎_elim, arith, take-append-drop, length-take}
-use Rattle.std.specs.List.{AllByRecursion as All}
+use Rattle.std.specs.List.{AllByRecursion}
 use Rattle.std.specs.List.Sorted.{IsPermutation}
 use Rattle.std.proofs.lemmas.List.{append-nil, take_all, take_at, take-take, take-map, length-append, map-append, nil_from_length}
 use Rattle.std.proofs.lemmas.List.Elements.{filter-append}
@@ -21,7 +21,7 @@ module _ {X : Type 0} (rank : X → Rank) where
   pub length_leasts : (n : ℕ) (xs : List X) → length (leasts rank n xs) ≡ min n (length xs)
   length_leasts n xs = length-take n (in_order rank xs) ∙ ap (min n) (length_in_order xs)
 
-  pub all_leasts : (P : X → Type 0) (n : ℕ) (xs : List X) → All P xs → All P (leasts rank n xs)
+  pub all_leasts : (P : X → Type 0) (n : ℕ) (xs : List X) → AllByRecursion P xs → AllByRecursion P (leasts rank n xs)
   all_leasts P n xs a = All-take P n (in_order rank xs) (all_shuffled P xs (in_order rank xs) (shuffled_in_order rank xs) a)
 
   in_order_take : (n : ℕ) (xs : List X) → InOrder rank xs → InOrder rank (take n xs)
@@ -29,7 +29,7 @@ module _ {X : Type 0} (rank : X → Rank) where
   in_order_take (suc n) [] h = tt
   in_order_take (suc n) (x ∷ xs) h = (All-take _ n xs h.0, in_order_take n xs h.1)
 
-  in_order_behind : (n : ℕ) (xs : List X) → InOrder rank xs → All (λ x. NoneLower rank x (drop n xs)) (take n xs)
+  in_order_behind : (n : ℕ) (xs : List X) → InOrder rank xs → AllByRecursion (λ x. NoneLower rank x (drop n xs)) (take n xs)
   in_order_behind zero xs h = tt
   in_order_behind (suc n) [] h = tt
   in_order_behind (suc n) (x ∷ xs) h = (All-drop _ n xs h.0, in_order_behind n xs h.1)

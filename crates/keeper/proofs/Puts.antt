@@ -1,6 +1,6 @@
 -- One item put into a list that is in order, behind its equals. Assumes nothing.
 use Rattle.std.proofs.Common.{◌≡◌, ℕ, zero, suc, ◌+◌, Bool, true, false, cond, List, [], ◌∷◌, ◌++◌, length, take, replicate, sym, refl, ap, ◌∙◌, arith}
-use Rattle.std.specs.List.{AllByRecursion as All}
+use Rattle.std.specs.List.{AllByRecursion}
 use Rattle.std.proofs.lemmas.List.{append-nil, take-take}
 use Rattle.std.proofs.lemmas.List.Elements.{filter-append}
 use Rattle.std.proofs.ByRecursion.{All-weaker}
@@ -18,11 +18,11 @@ module _ {X : Type 0} (rank : X → Rank) where
   put x [] = x ∷ []
   put x (y ∷ ys) = cond (lower (rank x) (rank y)) (x ∷ y ∷ ys) (y ∷ put x ys)
 
-  pub all_put : (P : X → Type 0) (x : X) (ys : List X) → P x → All P ys → All P (put x ys)
+  pub all_put : (P : X → Type 0) (x : X) (ys : List X) → P x → AllByRecursion P ys → AllByRecursion P (put x ys)
   all_put P x [] h a = (h, tt)
   all_put P x (y ∷ ys) h a = go (all_put P x ys h a.1) (lower (rank x) (rank y))
     where
-      go : All P (put x ys) → (t : Bool) → All P (cond t (x ∷ y ∷ ys) (y ∷ put x ys))
+      go : AllByRecursion P (put x ys) → (t : Bool) → AllByRecursion P (cond t (x ∷ y ∷ ys) (y ∷ put x ys))
       go ih true = (h, a)
       go ih false = (a.0, ih)
 
@@ -35,7 +35,7 @@ module _ {X : Type 0} (rank : X → Rank) where
       go ih false = ap suc ih
 
   -- what stands behind something higher than x
-  higher : (x y : X) (ys : List X) → lower (rank x) (rank y) ≡ true → NoneLower rank y ys → All (λ z. lower (rank x) (rank z) ≡ true) (y ∷ ys)
+  higher : (x y : X) (ys : List X) → lower (rank x) (rank y) ≡ true → NoneLower rank y ys → AllByRecursion (λ z. lower (rank x) (rank z) ≡ true) (y ∷ ys)
   higher x y ys l h = (l, All-weaker _ _ (λ z f. lower_chain (rank x) (rank y) (rank z) l f) ys h)
 
   in_order_put : (x : X) (ys : List X) → InOrder rank ys → InOrder rank (put x ys)
@@ -50,7 +50,7 @@ module _ {X : Type 0} (rank : X → Rank) where
   of_rank_put r x [] h = refl
   of_rank_put r x (y ∷ ys) h = go (of_rank_put r x ys h.1) (lower (rank x) (rank y)) refl
     where
-      ahead : All (λ z. lower (rank x) (rank z) ≡ true) (y ∷ ys) → (s : Bool) → same (rank x) r ≡ s → cond s (x ∷ of_rank rank r (y ∷ ys)) (of_rank rank r (y ∷ ys)) ≡ of_rank rank r (y ∷ ys) ++ cond s (x ∷ []) []
+      ahead : AllByRecursion (λ z. lower (rank x) (rank z) ≡ true) (y ∷ ys) → (s : Bool) → same (rank x) r ≡ s → cond s (x ∷ of_rank rank r (y ∷ ys)) (of_rank rank r (y ∷ ys)) ≡ of_rank rank r (y ∷ ys) ++ cond s (x ∷ []) []
       ahead a true e =
           let none : of_rank rank r (y ∷ ys) ≡ [] = kept_by_none (λ z. same (rank z) r) (y ∷ ys) (All-weaker _ _ (λ z f. not_same_back r (rank z) (sym (lower_at_same (rank x) r (rank z) e) ∙ f)) (y ∷ ys) a) in
           ap (λ l. x ∷ l) none ∙ ap (λ l. l ++ x ∷ []) (sym none)

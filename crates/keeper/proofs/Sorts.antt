@@ -1,6 +1,6 @@
 -- What it is to be in order: `in_order` has it, and no other list does. Assumes nothing.
 use Rattle.std.proofs.Common.{◌≡◌, Bool, true, false, cond, not, List, [], ◌∷◌, ◌++◌, filter, sym, refl, ap, ◌∙◌}
-use Rattle.std.specs.List.{AllByRecursion as All}
+use Rattle.std.specs.List.{AllByRecursion}
 use Rattle.std.proofs.lemmas.List.{append-nil}
 use Rattle.std.proofs.lemmas.List.Elements.{filter-append}
 use Rattle.std.proofs.ByRecursion.{All-append, All-weaker, all_kept_by, kept_by_passes}
@@ -13,7 +13,7 @@ use Rattle.keeper.proofs.Orders.{one_way, chain, lower_chain, same_itself, not_s
 use Rattle.keeper.proofs.Filters.{kept_by_none, kept_by_yes, kept_by_no, kept_by_within, kept_by_apart}
 
 module _ {X : Type 0} (rank : X → Rank) where
-  pub in_order_append : (xs ys : List X) → InOrder rank xs → InOrder rank ys → All (λ x. NoneLower rank x ys) xs → InOrder rank (xs ++ ys)
+  pub in_order_append : (xs ys : List X) → InOrder rank xs → InOrder rank ys → AllByRecursion (λ x. NoneLower rank x ys) xs → InOrder rank (xs ++ ys)
   in_order_append [] ys h k a = k
   in_order_append (x ∷ xs) ys h k a = (All-append _ xs ys h.0 a.0, in_order_append xs ys h.1 k a.1)
 

@@ -1,6 +1,6 @@
 -- What the places of a keeper hold of the items given since they were cleared. Assumes nothing.
 use Rattle.std.specs.Prelude.{◌≡◌, ℕ, ◌-◌, Bool, true, List, [], ◌∷◌, ◌++◌, length, take, replicate, filter}
-use Rattle.std.specs.List.{prefix_len, AllByRecursion as All}
+use Rattle.std.specs.List.{prefix_len, AllByRecursion}
 use Rattle.keeper.specs.declared.Rank.{Rank}
 use Rattle.keeper.specs.Ranks.{lower}
 use Rattle.keeper.specs.Least.{Least}
@@ -15,7 +15,7 @@ module _ {X : Type 0} (rank : X → Rank) (empty : X) where
     -- empty marks stand behind what is held
     pub stands : places ≡ held ++ replicate (length places - length held) empty
     -- and rank above all that was given
-    pub above : All (λ x. lower (rank x) (rank empty) ≡ true) given
+    pub above : AllByRecursion (λ x. lower (rank x) (rank empty) ≡ true) given
 
   -- how many places are ahead of the first free one
   abbrev pub count_in : List X → ℕ

@@ -2,9 +2,11 @@
 //
 // A keeper is a slice that its owner lends to each call. It begins with `clear`; `offer` gives it an item; `items` reads
 // what it holds, in order of rank. Of places that were never cleared only what is said without `Keeps` is promised.
+#![tactic(auto)]
+
 ghost use Rattle.std.specs.Prelude.{◌≡◌, ℕ, ◌<◌, ◌≤◌, min, true, false, List, [], length, take, replicate, Some};
 ghost use Rattle.std.specs.Option.{option_to_list};
-ghost use Rattle.std.specs.List.{AllByRecursion as All};
+ghost use Rattle.std.specs.List.{AllByRecursion};
 ghost use Rattle.keeper.specs.Keeping.{Keeps, Takes, Reads, count_in, items_in};
 ghost use Rattle.keeper.specs.Leasts.{Computes};
 ghost use Rattle.keeper.specs.Ranks.{lower};
@@ -53,15 +55,15 @@ pub trait Ranked: Copy {
 }
 
 fn ranks_below<T: Ranked>(a: &T, b: &T) -> bool
-    ensures { result ≡ lower (rank a.now) (rank b.now) }
+    ensures { result ≡ lower (T.rank a.now) (T.rank b.now) }
 {
     a.rank().is_below(b.rank())
 }
 
 // Makes the places a keeper to which nothing was given.
 pub fn clear<T: Ranked>(places: &mut [T])
-    ensures fills { places.new ≡ replicate (length places.old) empty }
-    ensures keeps { Keeps rank empty places.new [] }
+    ensures fills { places.new ≡ replicate (length places.old) T.empty }
+    ensures keeps { Keeps T.rank T.empty places.new [] }
 {
     let mark = T::mark();
     for place in places.iter_mut() {
@@ -72,10 +74,10 @@ pub fn clear<T: Ranked>(places: &mut [T])
 // Gives the keeper an item, and hands back the one that goes without a place, if any: the item itself or one that was held.
 // What ranks no lower than the empty mark is no item, and is handed back.
 pub fn offer<T: Ranked>(places: &mut [T], item: T) -> Option<T>
-    ensures takes { lower (rank item) (rank empty) ≡ true → (given : List T) → Keeps rank empty places.old given → Takes rank empty given places.old item places.new (option_to_list result) }
-    ensures finds_no_place { All (λ x. lower (rank item) (rank x) ≡ false) places.old → (places.new ≡ places.old) × (result ≡ Some item) }
-    ensures no_item { lower (rank item) (rank empty) ≡ false → (places.new ≡ places.old) × (result ≡ Some item) }
-    ensures every_item { offerable item → lower (rank item) (rank empty) ≡ true }
+    ensures takes { lower (T.rank item) (T.rank T.empty) ≡ true → (given : List T) → Keeps T.rank T.empty places.old given → Takes T.rank T.empty given places.old item places.new (option_to_list result) }
+    ensures finds_no_place { AllByRecursion (λ x. lower (T.rank item) (T.rank x) ≡ false) places.old → (places.new ≡ places.old) × (result ≡ Some item) }
+    ensures no_item { lower (T.rank item) (T.rank T.empty) ≡ false → (places.new ≡ places.old) × (result ≡ Some item) }
+    ensures every_item { T.offerable item → lower (T.rank item) (T.rank T.empty) ≡ true }
 {
     let mark = T::mark();
     if !ranks_below(&item, &mark) {
@@ -99,10 +101,10 @@ pub fn offer<T: Ranked>(places: &mut [T], item: T) -> Option<T>
 
 // How many items the keeper holds: that many places, from the first on.
 pub fn held<T: Ranked>(places: &[T]) -> usize
-    ensures counts { result ≡ count_in rank empty places.now }
+    ensures counts { result ≡ count_in T.rank T.empty places.now }
     ensures within { result ≤ length places.now }
-    ensures keeps { (given : List T) → Keeps rank empty places.now given → result ≡ min (length places.now) (length given) }
-    ensures reads { (given : List T) → Keeps rank empty places.now given → Reads rank empty given places.now (take result places.now) }
+    ensures keeps { (given : List T) → Keeps T.rank T.empty places.now given → result ≡ min (length places.now) (length given) }
+    ensures reads { (given : List T) → Keeps T.rank T.empty places.now given → Reads T.rank T.empty given places.now (take result places.now) }
     ensures computes { (by : T → Rank) (n : ℕ) (xs : List T) → Computes by n xs }
 {
     let mark = T::mark();
@@ -118,8 +120,8 @@ pub fn held<T: Ranked>(places: &[T]) -> usize
 
 // The items held, in order of rank.
 pub fn items<T: Ranked>(places: &[T]) -> &[T]
-    ensures front { result.now ≡ items_in rank empty places.now }
-    ensures reads { (given : List T) → Keeps rank empty places.now given → Reads rank empty given places.now result.now }
+    ensures front { result.now ≡ items_in T.rank T.empty places.now }
+    ensures reads { (given : List T) → Keeps T.rank T.empty places.now given → Reads T.rank T.empty given places.now result.now }
     ensures computes { (by : T → Rank) (n : ℕ) (xs : List T) → Computes by n xs }
 {
     &places[0..held(places)]

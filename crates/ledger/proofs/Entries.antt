@@ -1,6 +1,6 @@
 -- A ledger that a box entered, in the words of the rules. Assumes nothing.
 use Rattle.std.proofs.Common.{◌≡◌, ℕ, ◌+◌, Bool, true, false, cond, List, [], ◌∷◌, ◌++◌, map, length, take, vec_items, sym, refl, ap, ◌∙◌, subst}
-use Rattle.std.specs.List.{AllByRecursion as All}
+use Rattle.std.specs.List.{AllByRecursion}
 use Rattle.domain.specs.declared.range.Range.{Range}
 use Rattle.domain.specs.Meaning.{Meaning}
 use Rattle.domain.specs.Boxes.{box_loss}
@@ -65,7 +65,7 @@ module _ (m : Meaning) (g : Settings) (before after : Ledger) (bounds : List Ran
           places = h.places ∙ was.places;
           given = was.given;
           keeps = subst (λ l. Keeps rank_of no_kept l was.given) (sym e) was.keeps;
-          priced = subst (All (Priced m)) (sym same) was.priced;
+          priced = subst (AllByRecursion (Priced m)) (sym same) was.priced;
         };
       }
 
@@ -84,6 +84,6 @@ module _ (m : Meaning) (g : Settings) (before after : Ledger) (bounds : List Ran
           places = h.places ∙ was.places;
           given = was.given ++ item ∷ [];
           keeps = takes.keeps;
-          priced = subst (All (Priced m)) (sym held) (all_priced m ks);
+          priced = subst (AllByRecursion (Priced m)) (sym held) (all_priced m ks);
         };
       }

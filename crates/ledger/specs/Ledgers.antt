@@ -1,6 +1,6 @@
 -- What a ledger remembers, in the words of the rules. Assumes nothing.
 use Rattle.std.specs.Prelude.{◌≡◌, ℕ, List, [], map, reverse, length, vec_items}
-use Rattle.std.specs.List.{AllByRecursion as All}
+use Rattle.std.specs.List.{AllByRecursion}
 use Rattle.domain.specs.Meaning.{Meaning}
 use Rattle.domain.specs.Boxes.{box_loss}
 use Rattle.release.specs.declared.Settings.{Settings}
@@ -34,7 +34,7 @@ pub record KeptWell (m : Meaning) (n : ℕ) (l : Ledger) : Type 0 where
   pub places : places_of l ≡ n
   pub given : List KeptBox
   pub keeps : Keeps rank_of no_kept (vec_items l.kept) given
-  pub priced : All (Priced m) (kept_boxes l)
+  pub priced : AllByRecursion (Priced m) (kept_boxes l)
 
 -- a ledger of no boxes
 pub record Reserved (mu rho : ℕ) (l : Ledger) : Type 0 where

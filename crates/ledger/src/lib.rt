@@ -1,4 +1,6 @@
 // What is kept of the boxes released so far.
+#![tactic(auto)]
+
 mod kept;
 mod ledger;
 mod mean;

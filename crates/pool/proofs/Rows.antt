@@ -1,6 +1,6 @@
 -- The table beside held records that change.
 use Rattle.std.proofs.Common.{◌≡◌, ℕ, zero, suc, ◌+◌, ◌-◌, ◌^◌, ◌<◌, ◌≤◌, min, Bool, true, false, cond, not, eqb, ◌⊎◌, List, [], ◌∷◌, ◌++◌, map, length, get_or, set, filter, sym, refl, ap, ◌∙◌, subst, inl, inr, ⊎_elim, one-add, arith}
-use Rattle.std.specs.List.{remove, AllByRecursion as All}
+use Rattle.std.specs.List.{remove, AllByRecursion}
 use Rattle.std.proofs.lemmas.List.{map-append, get_or-map, length-map}
 use Rattle.std.proofs.ByRecursion.{All-map, all_kept_by, All-weaker}
 use Rattle.std.proofs.lemmas.Bool.{eq-eqb, ne_eqb, eqb-true, eqb-false, cases_eq, not-true, not_from_false}
@@ -40,7 +40,7 @@ module _ {X Y : Type 0} where
       go true false k ih = let z : ◌≡◌ {A = ℕ} 0 1 = cc in absurd (omega arith)
       go false true k ih = let z : ◌≡◌ {A = ℕ} 0 1 = cc in absurd (omega arith)
 
-all_stay : {X : Type 0} (p : X → Bool) (xs : List X) → All (λ x. p x ≡ true) xs → filter p xs ≡ xs
+all_stay : {X : Type 0} (p : X → Bool) (xs : List X) → AllByRecursion (λ x. p x ≡ true) xs → filter p xs ≡ xs
 all_stay p [] a = refl
 all_stay p (x ∷ xs) a = ap (λ b. cond b (x ∷ filter p xs) (filter p xs)) a.0 ∙ ap (λ ys. x ∷ ys) (all_stay p xs a.1)
 
@@ -98,13 +98,13 @@ some_long (x ∷ es) e i = omega arith
 open_long : (hs : List Held) (c : ℕ) → In (clusters hs) c → 1 ≤ length (members c hs)
 open_long hs c i = let r = open_some hs c i in some_long (members c hs) r.0 r.1
 
-members_none : (c : ℕ) (hs : List Held) → All (λ h. h.label < c) hs → members c hs ≡ []
+members_none : (c : ℕ) (hs : List Held) → AllByRecursion (λ h. h.label < c) hs → members c hs ≡ []
 members_none c [] a = refl
 members_none c (h ∷ hs) a = members_front c h hs ∙ ap (λ t. cond t (h.entry ∷ members c hs) (members c hs)) (ne_eqb h.label c (λ e. omega (arith, e, a.0))) ∙ members_none c hs a.1
 
 -- ---- a record opens a cluster
 
-pub table_opened : (m : Meaning) (hs : List Held) (e : Entry) → All (λ h. h.label < e.position) hs → table m (held_also e.position e hs) ≡ table m hs ++ opened m e ∷ []
+pub table_opened : (m : Meaning) (hs : List Held) (e : Entry) → AllByRecursion (λ h. h.label < e.position) hs → table m (held_also e.position e hs) ≡ table m hs ++ opened m e ∷ []
 table_opened m hs e a =
     let h : Held = record { entry = e; label = e.position } in
     let ks = hs ++ h ∷ [] in
@@ -245,7 +245,7 @@ module _ (m : Meaning) (c : ℕ) (hs ks : List Held) (same : (d : ℕ) → (d �
 
 -- ---- a cluster takes over another
 
-fit_members : (m : Meaning) (c : ℕ) (hs : List Held) → All (λ h. Fit m h.entry) hs → All (Fit m) (members c hs)
+fit_members : (m : Meaning) (c : ℕ) (hs : List Held) → AllByRecursion (λ h. Fit m h.entry) hs → AllByRecursion (Fit m) (members c hs)
 fit_members m c hs a = All-map (Fit m) (λ (h : Held). h.entry) (filter (λ h. eqb h.label c) hs) (all_kept_by (λ h. eqb h.label c) (λ (h : Held). Fit m h.entry) hs a)
 
 module _ (m : Meaning) (c e : ℕ) (hs : List Held) (n : c ≡ e → ⊥) (o : In (clusters hs) c) where
@@ -267,12 +267,12 @@ module _ (m : Meaning) (c e : ℕ) (hs : List Held) (n : c ≡ e → ⊥) (o : I
       at d k false f = ap (λ t. cond t (cluster_of m (merged c e hs) c) (cluster_of m hs d)) f ∙ sym (row_same m hs (merged c e hs) d ((merger_law c e hs).no_other d (eqb-false d c f) k))
 
   -- the row of the cluster that takes over
-  union_is : In (clusters hs) e → All (λ h. Fit m h.entry) hs → union m hs (cluster_of m hs c) (cluster_of m hs e) ≡ cluster_of m (merged c e hs) c
+  union_is : In (clusters hs) e → AllByRecursion (λ h. Fit m h.entry) hs → union m hs (cluster_of m hs c) (cluster_of m hs e) ≡ cluster_of m (merged c e hs) c
   union_is q a =
       let b = sym (boxes_stand.joined m (members c hs) (members e hs) (members c (merged c e hs)) (open_long hs c o) (open_long hs e q) (fit_members m c hs a) (fit_members m e hs a) (merger_law c e hs).takes) in
       ap (λ t. record { label = c; size = size (members c (merged c e hs)); loss = box_loss m t; bounds = t }) b
 
-  merged_table : In (clusters hs) e → All (λ h. Fit m h.entry) hs → taken_over m hs (cluster_of m hs c) (cluster_of m hs e) (table m hs) ≡ table m (merged c e hs)
+  merged_table : In (clusters hs) e → AllByRecursion (λ h. Fit m h.entry) hs → taken_over m hs (cluster_of m hs c) (cluster_of m hs e) (table m hs) ≡ table m (merged c e hs)
   merged_table q a = ap (λ t. other_rows e (map (replaced t) (table m hs))) (union_is q a) ∙ table_merged
 
 -- ---- the held record at a place
@@ -313,7 +313,7 @@ module _ (m : Meaning) (hs : List Held) (xs : List Cluster) (is : xs ≡ table m
       labels_apart (clusters hs) i j (clusters_law hs).oldest_first (omega (arith, l, long)) (omega (arith, k, long)) n
       (ap (λ cs. get_or cs i 0) (sym ls) ∙ sym (label_at_is xs i x l e) ∙ same ∙ label_at_is xs j y k f ∙ ap (λ cs. get_or cs j 0) ls)
 
-  pub taken_over_table : (i j : ℕ) (x y : Cluster) → i < length xs → j < length xs → (i ≡ j → ⊥) → x ≡ get_or xs i x → y ≡ get_or xs j y → All (λ h. Fit m h.entry) hs → taken_over m hs x y xs ≡ table m (merged x.label y.label hs)
+  pub taken_over_table : (i j : ℕ) (x y : Cluster) → i < length xs → j < length xs → (i ≡ j → ⊥) → x ≡ get_or xs i x → y ≡ get_or xs j y → AllByRecursion (λ h. Fit m h.entry) hs → taken_over m hs x y xs ≡ table m (merged x.label y.label hs)
   taken_over_table i j x y l k n e f a =
       ap (λ z. taken_over m hs z y xs) (row_is i x l e) ∙ ap (λ z. taken_over m hs (cluster_of m hs x.label) z xs) (row_is j y k f) ∙ ap (taken_over m hs (cluster_of m hs x.label) (cluster_of m hs y.label)) is
       ∙ merged_table m x.label y.label hs (rows_apart i j x y l k n e f) (row_open i x l e) (row_open j y k f) a

@@ -1,6 +1,6 @@
 // What changes a pool. Each change keeps the table in step with the held records, and none but `reserve` asks for memory.
 ghost use Rattle.std.specs.Prelude.{◌≡◌, ◌<◌, not, ltb, [], ◌∷◌, ◌++◌, IfOk, if◌then◌else◌, vec_len, vec_capacity, nat_lt, slice_index_or, slice_set};
-ghost use Rattle.std.specs.List.{remove, AllByRecursion as All};
+ghost use Rattle.std.specs.List.{remove, AllByRecursion};
 ghost use Rattle.domain.specs.Meaning.{Meaning};
 ghost use Rattle.rules.specs.Around.{Fit};
 ghost use Rattle.rules.specs.Choosing.{In, listed};
@@ -23,7 +23,7 @@ const MOST_OPEN: usize = 64;
 
 // The cluster takes one record more: its values, and whether the cluster did not name its owner.
 fn take_record<D: Domain>(d: &D, cluster: &mut Cluster, values: &[u32; PLACES], new_owner: bool)
-    ensures { cluster.new ≡ with_record (meaning d.now) values.now new_owner cluster.old }
+    ensures { cluster.new ≡ with_record (D.meaning d.now) values.now new_owner cluster.old }
 {
     widen(d, &mut cluster.bounds, values);
     cluster.loss = box_loss(d, &cluster.bounds);
@@ -34,7 +34,7 @@ fn take_record<D: Domain>(d: &D, cluster: &mut Cluster, values: &[u32; PLACES], 
 
 // The row of a cluster is made again from the members that it has, and goes if it has none.
 fn renew<D: Domain>(d: &D, held: &[Held], clusters: &mut Vec<Cluster>, label: u32)
-    ensures items { clusters.new.items ≡ renewed (meaning d.now) held.now label clusters.old.items }
+    ensures items { clusters.new.items ≡ renewed (D.meaning d.now) held.now label clusters.old.items }
     ensures memory { vec_capacity clusters.new ≡ vec_capacity clusters.old }
 {
     let row = cluster_of(d, held, label);
@@ -73,8 +73,8 @@ impl Pool {
     // The record opens a cluster, whose label is its position. Where there is no memory for both, nothing changes.
     pub fn open_cluster<D: Domain>(&mut self, d: &D, entry: Entry)
         ensures held { held_of self.new ≡ (if can_open self.old then held_also entry.position entry (held_of self.old) else held_of self.old) }
-        ensures clusters { rows_of self.new ≡ (if can_open self.old then rows_of self.old ++ opened (meaning d.now) entry ∷ [] else rows_of self.old) }
-        ensures faithful { All (λ h. h.label < entry.position) (held_of self.old) → Faithful (meaning d.now) self.old → Faithful (meaning d.now) self.new }
+        ensures clusters { rows_of self.new ≡ (if can_open self.old then rows_of self.old ++ opened (D.meaning d.now) entry ∷ [] else rows_of self.old) }
+        ensures faithful { AllByRecursion (λ h. h.label < entry.position) (held_of self.old) → Faithful (D.meaning d.now) self.old → Faithful (D.meaning d.now) self.new }
         ensures memory { SameMemory self.old self.new }
     {
         if self.held.len() < self.held.capacity()
@@ -98,8 +98,8 @@ impl Pool {
     // nothing changes.
     pub fn join<D: Domain>(&mut self, d: &D, at: usize, entry: Entry)
         ensures held { held_of self.new ≡ (if can_join self.old at then held_also (label_at (rows_of self.old) at) entry (held_of self.old) else held_of self.old) }
-        ensures clusters { (x : Cluster) → rows_of self.new ≡ (if can_join self.old at then slice_set (rows_of self.old) at (with_record (meaning d.now) (rules.values entry) (not (listed (rules.owner entry) (rules.owners (rules.members (label_at (rows_of self.old) at) (held_of self.old))))) (slice_index_or (rows_of self.old) at x)) else rows_of self.old) }
-        ensures faithful { Faithful (meaning d.now) self.old → Faithful (meaning d.now) self.new }
+        ensures clusters { (x : Cluster) → rows_of self.new ≡ (if can_join self.old at then slice_set (rows_of self.old) at (with_record (D.meaning d.now) (rules.values entry) (not (listed (rules.owner entry) (rules.owners (rules.members (label_at (rows_of self.old) at) (held_of self.old))))) (slice_index_or (rows_of self.old) at x)) else rows_of self.old) }
+        ensures faithful { Faithful (D.meaning d.now) self.old → Faithful (D.meaning d.now) self.new }
         ensures memory { SameMemory self.old self.new }
     {
         if at < self.clusters.len() && self.held.len() < self.held.capacity() {
@@ -114,8 +114,8 @@ impl Pool {
     // nothing changes.
     pub fn leave<D: Domain>(&mut self, d: &D, at: usize)
         ensures held { held_of self.new ≡ (if ltb at (vec_len self.old.held) then remove (held_of self.old) at else held_of self.old) }
-        ensures clusters { rows_of self.new ≡ (if ltb at (vec_len self.old.held) then renewed (meaning d.now) (remove (held_of self.old) at) (label_of (held_of self.old) at) (rows_of self.old) else rows_of self.old) }
-        ensures faithful { Faithful (meaning d.now) self.old → Faithful (meaning d.now) self.new }
+        ensures clusters { rows_of self.new ≡ (if ltb at (vec_len self.old.held) then renewed (D.meaning d.now) (remove (held_of self.old) at) (label_of (held_of self.old) at) (rows_of self.old) else rows_of self.old) }
+        ensures faithful { Faithful (D.meaning d.now) self.old → Faithful (D.meaning d.now) self.new }
         ensures memory { SameMemory self.old self.new }
     {
         if at < self.held.len() {
@@ -140,8 +140,8 @@ impl Pool {
     pub fn merge<D: Domain>(&mut self, d: &D, at: usize, other: usize)
         ensures held { held_of self.new ≡ (if are_two self.old at other then merged (label_at (rows_of self.old) at) (label_at (rows_of self.old) other) (held_of self.old) else held_of self.old) }
         ensures same_records { rules.records (held_of self.new) ≡ rules.records (held_of self.old) }
-        ensures clusters { (x : Cluster) → rows_of self.new ≡ (if are_two self.old at other then taken_over (meaning d.now) (held_of self.old) (slice_index_or (rows_of self.old) at x) (slice_index_or (rows_of self.old) other x) (rows_of self.old) else rows_of self.old) }
-        ensures faithful { All (λ h. Fit (meaning d.now) h.entry) (held_of self.old) → Faithful (meaning d.now) self.old → Faithful (meaning d.now) self.new }
+        ensures clusters { (x : Cluster) → rows_of self.new ≡ (if are_two self.old at other then taken_over (D.meaning d.now) (held_of self.old) (slice_index_or (rows_of self.old) at x) (slice_index_or (rows_of self.old) other x) (rows_of self.old) else rows_of self.old) }
+        ensures faithful { AllByRecursion (λ h. Fit (D.meaning d.now) h.entry) (held_of self.old) → Faithful (D.meaning d.now) self.old → Faithful (D.meaning d.now) self.new }
         ensures memory { SameMemory self.old self.new }
     {
         if at < self.clusters.len() && other < self.clusters.len() && at != other {

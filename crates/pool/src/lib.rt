@@ -1,4 +1,6 @@
 // The held records and the open clusters.
+#![tactic(auto)]
+
 use domain::{PLACES, Range};
 use rules::Held;
 

@@ -67,7 +67,7 @@ pub(crate) fn count_owners(held: &[Held], label: u32) -> usize
 
 // The least box that covers the cluster's records; of none, unused ranges.
 pub(crate) fn box_of<D: Domain>(d: &D, held: &[Held], label: u32) -> [Range; PLACES]
-    ensures { result ≡ rules.box_of (meaning d.now) (rules.members label held.now) }
+    ensures { result ≡ rules.box_of (D.meaning d.now) (rules.members label held.now) }
 {
     let mut bounds = [Range::point(0); PLACES];
     let mut is_first = true;
@@ -86,7 +86,7 @@ pub(crate) fn box_of<D: Domain>(d: &D, held: &[Held], label: u32) -> [Range; PLA
 
 // The cluster's row in the table.
 pub(crate) fn cluster_of<D: Domain>(d: &D, held: &[Held], label: u32) -> Cluster
-    ensures { result ≡ cluster_of (meaning d.now) held.now label }
+    ensures { result ≡ cluster_of (D.meaning d.now) held.now label }
 {
     let bounds = box_of(d, held, label);
     Cluster {

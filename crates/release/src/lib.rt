@@ -1,4 +1,6 @@
 // The plain types of a release: what is fed, what is set, and what is written.
+#![tactic(auto)]
+
 ghost use Rattle.std.specs.Prelude.{◌≡◌};
 ghost use Rattle.release.specs.Manners.{manner_number};
 

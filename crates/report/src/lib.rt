@@ -1,4 +1,6 @@
 // Report lines: owner, the values of the attributes, reading.
+#![tactic(auto)]
+
 mod columns;
 mod faults;
 mod numbers;

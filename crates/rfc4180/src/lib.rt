@@ -1,4 +1,6 @@
 // Text after RFC 4180, read a line at a time without copying a byte of it.
+#![tactic(auto)]
+
 mod faults;
 mod fields;
 mod lines;

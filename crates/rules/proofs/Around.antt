@@ -1,6 +1,6 @@
 -- The box of admitted records is the least around them, and the only one.
 use Rattle.std.proofs.Common.{◌≡◌, ℕ, ◌≤◌, true, List, [], ◌∷◌, ◌++◌, length, fold, sym, refl, ◌∙◌, ⊎_elim, le_antisymm, arith}
-use Rattle.std.specs.List.{AllByRecursion as All}
+use Rattle.std.specs.List.{AllByRecursion}
 use Rattle.std.proofs.lemmas.List.{length-append}
 use Rattle.std.proofs.lemmas.List.FromFn.{fill_by_all}
 use Rattle.std.proofs.lemmas.Bool.{cases_Bool, or_left, or_right}
@@ -32,7 +32,7 @@ record Wider (m : Meaning) (b : Box) (es : List Entry) (j : Box) : Type 0 where
   covering : CoversAll m j es
   least : (k : Box) → Allowed m k → InsideBox m b k → CoversAll m k es → InsideBox m j k
 
-wider : (m : Meaning) (b : Box) (es : List Entry) → laws.Box m b → All (Fit m) es → Wider m b es (fold (widened m) b es)
+wider : (m : Meaning) (b : Box) (es : List Entry) → laws.Box m b → AllByRecursion (Fit m) es → Wider m b es (fold (widened m) b es)
 wider m b [] p a = record { is_box = p; containing = inside_self m b; covering = tt; least = λ k _ l _. l }
 wider m b (e ∷ es) p a =
     let one = point_box_least m (values e) a.0 in
@@ -46,7 +46,7 @@ wider m b (e ∷ es) p a =
       least = λ k ok l c. rest.least k ok (w.least k ok l c.0) c.1;
     }
 
-pub box_least : (m : Meaning) (es : List Entry) → 1 ≤ length es → All (Fit m) es → LeastAround m es (box_of m es)
+pub box_least : (m : Meaning) (es : List Entry) → 1 ≤ length es → AllByRecursion (Fit m) es → LeastAround m es (box_of m es)
 box_least m [] l a = absurd (omega (arith, l))
 box_least m (e ∷ es) l a =
     let one = point_box_least m (values e) a.0 in
@@ -71,7 +71,7 @@ same_box m a b p q l r =
     at : (i : ℕ) → range_at a i ≡ range_at b i
     at i = ⊎_elim (λ k. same_range (range_at a i) (range_at b i) (l i k) (r i k)) (λ u. p.unused i u ∙ sym (q.unused i u)) (cases_Bool (known m i))
 
-pub boxes_records : (m : Meaning) (es : List Entry) → 1 ≤ length es → All (Fit m) es → BoxesRecords m es
+pub boxes_records : (m : Meaning) (es : List Entry) → 1 ≤ length es → AllByRecursion (Fit m) es → BoxesRecords m es
 boxes_records m es l a =
     let b = box_least m es l a in
     record {
@@ -80,7 +80,7 @@ boxes_records m es l a =
       cheapest = λ k ok c. loss_mono m (box_of m es) k b.is_box.allowed ok (b.least k ok c);
     }
 
-pub box_covers : (m : Meaning) (es : List Entry) → All (Fit m) es → CoversAll m (box_of m es) es
+pub box_covers : (m : Meaning) (es : List Entry) → AllByRecursion (Fit m) es → CoversAll m (box_of m es) es
 box_covers m [] a = tt
 box_covers m (e ∷ es) a = (box_least m (e ∷ es) (omega arith) a).covering
 
@@ -94,16 +94,16 @@ box_wider : (m : Meaning) (es : List Entry) (e : Entry) → 1 ≤ length es → 
 box_wider m [] e l = absurd (omega (arith, l))
 box_wider m (x ∷ es) e l = folded_push (widened m) (point_box m (values x)) es e
 
-some_in : (es gs : List Entry) → 1 ≤ length es → All (In gs) es → 1 ≤ length gs
+some_in : (es gs : List Entry) → 1 ≤ length es → AllByRecursion (In gs) es → 1 ≤ length gs
 some_in [] gs l a = absurd (omega (arith, l))
 some_in (e ∷ es) [] l a = absurd a.0
 some_in (e ∷ es) (g ∷ gs) l a = omega arith
 
-box_joined : (m : Meaning) (es fs gs : List Entry) → 1 ≤ length es → 1 ≤ length fs → All (Fit m) es → All (Fit m) fs → Together es fs gs → box_of m gs ≡ join_boxes m (box_of m es) (box_of m fs)
+box_joined : (m : Meaning) (es fs gs : List Entry) → 1 ≤ length es → 1 ≤ length fs → AllByRecursion (Fit m) es → AllByRecursion (Fit m) fs → Together es fs gs → box_of m gs ≡ join_boxes m (box_of m es) (box_of m fs)
 box_joined m es fs gs l r a b t =
     let x = box_least m es l a in
     let y = box_least m fs r b in
-    let both : (P : Entry → Type 0) → All P es → All P fs → All P gs = λ P p q. All-weaker _ P (λ e i. ⊎_elim (in_all P es e p) (in_all P fs e q) i) gs t.either in
+    let both : (P : Entry → Type 0) → AllByRecursion P es → AllByRecursion P fs → AllByRecursion P gs = λ P p q. All-weaker _ P (λ e i. ⊎_elim (in_all P es e p) (in_all P fs e q) i) gs t.either in
     let j = join_boxes_least m (box_of m es) (box_of m fs) x.is_box.allowed y.is_box.allowed in
     let wide = join_boxes_covers m (box_of m es) (box_of m fs) x.is_box.allowed y.is_box.allowed in
     sym ((boxes_records m gs (some_in es gs l t.all_first) (both (Fit m) a b)).no_other (join_boxes m (box_of m es) (box_of m fs)) (record {
@@ -116,11 +116,11 @@ box_joined m es fs gs l r a b t =
           (y.least k ok (All-weaker (In gs) _ (λ e i. in_all (λ e. covers_entry m k e ≡ true) gs e c i) fs t.all_second));
     }))
 
-all_front : (P : Entry → Type 0) (xs ys : List Entry) → All P (xs ++ ys) → All P xs
+all_front : (P : Entry → Type 0) (xs ys : List Entry) → AllByRecursion P (xs ++ ys) → AllByRecursion P xs
 all_front P [] ys a = tt
 all_front P (x ∷ xs) ys a = (a.0, all_front P xs ys a.1)
 
-box_grows : (m : Meaning) (es more : List Entry) → All (Fit m) (es ++ more) → 1 ≤ length es → cost m es ≤ cost m (es ++ more)
+box_grows : (m : Meaning) (es more : List Entry) → AllByRecursion (Fit m) (es ++ more) → 1 ≤ length es → cost m es ≤ cost m (es ++ more)
 box_grows m es more a l =
     let b = box_least m (es ++ more) (omega (arith, l, length-append es more)) a in
     (boxes_records m es l (all_front (Fit m) es more a)).cheapest (box_of m (es ++ more)) b.is_box.allowed (all_front (λ e. covers_entry m (box_of m (es ++ more)) e ≡ true) es more b.covering)

@@ -1,6 +1,6 @@
 -- What holds of a state between the turns of a call: feeding and closing begin with it, and turns keep it.
 use Rattle.std.proofs.Common.{◌≡◌, ℕ, zero, suc, ◌+◌, ◌<◌, ◌≤◌, Bool, true, false, cond, not, eqb, List, [], ◌∷◌, ◌++◌, length, get_or, take, drop, Some, None, filter, sym, refl, ap, ◌∙◌, subst, arith}
-use Rattle.std.specs.List.{remove, AllByRecursion as All}
+use Rattle.std.specs.List.{remove, AllByRecursion}
 use Rattle.std.proofs.lemmas.List.{length_push, length-map}
 use Rattle.std.proofs.ByRecursion.{All-push, All-weaker, All-get_or}
 use Rattle.std.proofs.lemmas.Bool.{eq-eqb, ne_eqb, eqb-true}
@@ -29,7 +29,7 @@ use Rattle.rules.proofs.Bounds.{positions, facts}
 
 -- ---- positions that ascend are apart
 
-none_above : (p : ℕ) (hs : List Held) → All (λ h. p < h.entry.position) hs → held_times p hs ≡ 0
+none_above : (p : ℕ) (hs : List Held) → AllByRecursion (λ h. p < h.entry.position) hs → held_times p hs ≡ 0
 none_above p [] a = refl
 none_above p (h ∷ hs) a = omega (arith, mark (ne_eqb h.entry.position p (λ e. omega (arith, a.0, e))), none_above p hs a.1)
 
@@ -42,7 +42,7 @@ by_position_apart (h ∷ hs) a p = go (eqb h.entry.position p) refl (by_position
     go false e ih = omega (arith, mark e, ih)
 
 -- the record that leaves is the one at its place
-kept_all : (t : Held) (hs : List Held) → All (λ h. t.entry.position < h.entry.position) hs → without t hs ≡ hs
+kept_all : (t : Held) (hs : List Held) → AllByRecursion (λ h. t.entry.position < h.entry.position) hs → without t hs ≡ hs
 kept_all t [] a = refl
 kept_all t (h ∷ hs) a = ap (λ b. cond (not b) (h ∷ without t hs) (without t hs)) (ne_eqb h.entry.position t.entry.position (λ e. omega (arith, a.0, e))) ∙ ap (λ l. h ∷ l) (kept_all t hs a.1)
 

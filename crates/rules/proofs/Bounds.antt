@@ -1,6 +1,6 @@
 -- Bounds, orders and counts of every run.
 use Rattle.std.proofs.Common.{◌≡◌, ℕ, zero, suc, ◌+◌, ◌-◌, ◌<◌, ◌≤◌, Bool, true, false, cond, ◌⊎◌, List, [], ◌∷◌, ◌++◌, map, length, Some, None, Option, sym, refl, subst, inl, inr, ⊎_elim, arith}
-use Rattle.std.specs.List.{range_with_len, AllByRecursion as All}
+use Rattle.std.specs.List.{range_with_len, AllByRecursion}
 use Rattle.std.proofs.lemmas.List.FromFn.{length-range_with_len}
 use Rattle.std.proofs.lemmas.List.{length-append}
 use Rattle.std.proofs.ByRecursion.{All-weaker, All-push}
@@ -36,7 +36,7 @@ clusters_length : (hs : List Held) → length (clusters hs) ≡ length (differen
 clusters_length hs = length_in_order by_age (different (labels hs))
 
 -- numbers that come from one list, but for one more
-different_more : (n : ℕ) (xs ys : List ℕ) → All (λ y. (y ≡ n) ⊎ In xs y) ys → length (different ys) ≤ length (different xs) + 1
+different_more : (n : ℕ) (xs ys : List ℕ) → AllByRecursion (λ y. (y ≡ n) ⊎ In xs y) ys → length (different ys) ≤ length (different xs) + 1
 different_more n xs ys a = omega (arith, fewer (different ys) (n ∷ different xs) each)
   where
     each : (o : ℕ) → times o (different ys) ≤ one o n + times o (different xs)
@@ -49,7 +49,7 @@ different_more n xs ys a = omega (arith, fewer (different ys) (n ∷ different x
             (in_all (λ y. (y ≡ n) ⊎ In xs y) ys o a (listed_in o ys e))
         go false e = omega (arith, times_different o ys, mark e)
 
-different_fewer : (xs ys : List ℕ) → All (In xs) ys → length (different ys) ≤ length (different xs)
+different_fewer : (xs ys : List ℕ) → AllByRecursion (In xs) ys → length (different ys) ≤ length (different xs)
 different_fewer xs ys a = fewer (different ys) (different xs) each
   where
     each : (o : ℕ) → times o (different ys) ≤ times o (different xs)
@@ -59,7 +59,7 @@ different_fewer xs ys a = fewer (different ys) (different xs) each
         go true e = omega (arith, times_different o ys, mark e, times_different o xs, mark (in_listed o xs (in_all (In xs) ys o a (listed_in o ys e))))
         go false e = omega (arith, times_different o ys, mark e)
 
-all_labels : (P : ℕ → Type 0) (hs : List Held) → All (λ h. P h.label) hs → All P (labels hs)
+all_labels : (P : ℕ → Type 0) (hs : List Held) → AllByRecursion (λ h. P h.label) hs → AllByRecursion P (labels hs)
 all_labels P [] a = tt
 all_labels P (h ∷ hs) a = (a.0, all_labels P hs a.1)
 
@@ -92,7 +92,7 @@ counting_times p a (suc n) l u = ⊎_elim
     (λ n'. omega (arith, counting_times p (a + 1) n (omega (arith, l, n')) (omega (arith, u))))
     (cases_eq a p)
 
-few : (n d : ℕ) (hs : List Held) → ((p : ℕ) → held_total (one p) hs ≤ 1) → All (λ h. (n < h.entry.position + d) × (h.entry.position ≤ n)) hs → length hs ≤ d
+few : (n d : ℕ) (hs : List Held) → ((p : ℕ) → held_total (one p) hs ≤ 1) → AllByRecursion (λ h. (n < h.entry.position + d) × (h.entry.position ≤ n)) hs → length hs ≤ d
 few n d hs once a = omega (arith, fewer ps (range_with_len (n + 1 - d) d) each, length-range_with_len (n + 1 - d) d, total_map (λ _. 1) (λ (h : Held). h.entry.position) hs, length_total ps, length_total hs)
   where
     ps : List ℕ
@@ -121,7 +121,7 @@ record Up (m : Meaning) (g : Settings) (w : List Line) (s : State) : Type 0 wher
   hidden : s.suppressed ≡ suppressed_lines w
   made : s.boxes.made ≤ length w
   order : ByPosition s.held
-  old : All (λ r. r.label ≤ s.accepted) s.held
+  old : AllByRecursion (λ r. r.label ≤ s.accepted) s.held
 
 turned_up : (m : Meaning) (g : Settings) (w ls : List Line) (s t : State) → Turned m g s ls t → t.accepted ≡ s.accepted → Up m g w s → Up m g (ls ++ w) t
 turned_up m g w ls s t x same u = record {
@@ -133,16 +133,16 @@ turned_up m g w ls s t x same u = record {
   old = All-weaker _ _ (λ z i. let r = map_in (λ (h : Held). h.label) s.held z.label i in let l = in_all (λ (h : Held). h.label ≤ s.accepted) s.held r.0 u.old r.1 in omega (arith, l, r.2, same)) t.held x.old_labels;
 }
 
-pub positions : {g : Settings} {h : History} {s : State} → Good g h s → All (λ r. r.entry.position ≤ s.accepted) s.held
+pub positions : {g : Settings} {h : History} {s : State} → Good g h s → AllByRecursion (λ r. r.entry.position ≤ s.accepted) s.held
 positions {g} {h} {s} i = All-weaker _ _ (λ r j. omega (arith, i.tally, (in_all (Placed (length (accepted h))) (accepted h) r.entry (placed h) j).1)) s.held i.known
 
-home_old : (m : Meaning) (g : Settings) (s : State) (e : Entry) → All (λ r. r.label ≤ s.accepted) s.held → e.position ≡ s.accepted + 1 → home m g s e ≤ s.accepted + 1
+home_old : (m : Meaning) (g : Settings) (s : State) (e : Entry) → AllByRecursion (λ r. r.label ≤ s.accepted) s.held → e.position ≡ s.accepted + 1 → home m g s e ≤ s.accepted + 1
 home_old m g s e a p = ⊎_elim
     (λ i. let r = (clusters_law s.held).some_held (home m g s e) i in let l = in_all (λ (h : Held). h.label ≤ s.accepted) s.held r.0 a r.1 in omega (arith, l, r.2))
     (λ r. omega (arith, r.0, p))
     (housed m g s e)
 
-arrived_up : (m : Meaning) (g : Settings) (w : List Line) (s : State) (e : Entry) → 1 ≤ g.beta → e.position ≡ s.accepted + 1 → All (λ r. r.entry.position ≤ s.accepted) s.held → Up m g w s → Up m g w (arrive m g s e)
+arrived_up : (m : Meaning) (g : Settings) (w : List Line) (s : State) (e : Entry) → 1 ≤ g.beta → e.position ≡ s.accepted + 1 → AllByRecursion (λ r. r.entry.position ≤ s.accepted) s.held → Up m g w s → Up m g w (arrive m g s e)
 arrived_up m g w s e b p a u =
     let x : Held = record { entry = e; label = home m g s e } in
     record {
@@ -186,7 +186,7 @@ kept_up {m} {g} (then {h = h} {s = s} r c) = judged_up m g h s c (refusal m s c)
 -- ---- a call's lines
 
 judged_writing : (m : Meaning) (g : Settings) (h : History) (s : State) (c : Call) (v : Option Refusal) → refusal m s c ≡ v → 1 ≤ g.k → Good g h s
-    → (length (lines_of (judged m g s c v).exchange.got) ≤ length s.held + more_lines c) × (length (lines_of (judged m g s c v).exchange.got) ≤ room_of c) × All (Numbered s.boxes.made (judged m g s c v).after.boxes.made) (lines_of (judged m g s c v).exchange.got)
+    → (length (lines_of (judged m g s c v).exchange.got) ≤ length s.held + more_lines c) × (length (lines_of (judged m g s c v).exchange.got) ≤ room_of c) × AllByRecursion (Numbered s.boxes.made (judged m g s c v).after.boxes.made) (lines_of (judged m g s c v).exchange.got)
 judged_writing m g h s c (Some x) e k i = (omega arith, omega arith, tt)
 judged_writing m g h s (feeding r room) None e k i =
     let en = entered (s.accepted + 1) r in

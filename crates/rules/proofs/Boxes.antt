@@ -1,6 +1,6 @@
 -- The second part of the promise, for every run: each box covers what is written under it and names a crowd.
 use Rattle.std.proofs.Common.{◌≡◌, ℕ, zero, suc, ◌+◌, ◌≤◌, true, ◌⊎◌, List, [], ◌∷◌, ◌++◌, map, length, take, Some, None, fold, Option, sym, refl, ap, ◌∙◌, subst, inl, inr, ⊎_elim, arith}
-use Rattle.std.specs.List.{AllByRecursion as All}
+use Rattle.std.specs.List.{AllByRecursion}
 use Rattle.std.proofs.ByRecursion.{All-weaker, All-take, All-push}
 use Rattle.std.proofs.lemmas.Bool.{cond_both}
 use Rattle.domain.specs.Meaning.{Meaning}
@@ -34,7 +34,7 @@ use Rattle.rules.proofs.Fairness.{Says, rule_says}
 -- a box of this number and these ranges is known: of the lines so far, which are W, those that release it name k owners
 record Known (m : Meaning) (k : ℕ) (A : Entry → Type 0) (W : Line → Type 0) (number : ℕ) (ranges : Box) : Type 0 where
   named : List Entry
-  by_lines : All (λ e. A e × W (line e Released number (box_of m named))) named
+  by_lines : AllByRecursion (λ e. A e × W (line e Released number (box_of m named))) named
   only : (q : Line) → W q → q.manner ≡ Released → q.number ≡ number → ((e : Entry) × In named e × Writes q e) × (q.ranges ≡ box_of m named)
   many : k ≤ size named
   least : ranges ≡ box_of m named
@@ -49,7 +49,7 @@ record Under (m : Meaning) (k : ℕ) (A : Entry → Type 0) (W : Line → Type 0
 pub record Inv (m : Meaning) (k : ℕ) (A : Entry → Type 0) (W : Line → Type 0) (b : Boxes) : Type 0 where
   fresh : (q : Line) → W q → q.manner ≡ Released → q.number ≤ b.made
   lines : (q : Line) → W q → (q.manner ≡ Suppressed → ⊥) → Under m k A W q
-  kept : All (λ x. Known m k A W x.number x.ranges) b.kept
+  kept : AllByRecursion (λ x. Known m k A W x.number x.ranges) b.kept
 
 -- more accepted records, and other lines that are no release lines of the box
 known_more : {m : Meaning} {k : ℕ} {A A' : Entry → Type 0} {W W' : Line → Type 0} {number : ℕ} {ranges : Box} → ((e : Entry) → A e → A' e) → ((q : Line) → W q → W' q) → ((q : Line) → W' q → q.manner ≡ Released → q.number ≡ number → W q) → Known m k A W number ranges → Known m k A' W' number ranges
@@ -85,11 +85,11 @@ abbrev Plus : List Line → (Line → Type 0) → Line → Type 0
 Plus ls W q = In ls q ⊎ W q
 
 -- one part more
-part_inv : (m : Meaning) (g : Settings) (k : ℕ) (A : Entry → Type 0) (W : Line → Type 0) (o : Output) (es : List Entry) → 1 ≤ k → ((e : Entry) → A e → Fit m e) → All A es → k ≤ size es → Inv m k A (Plus o.lines W) o.boxes → Inv m k A (Plus (release_part m g o es).lines W) (release_part m g o es).boxes
+part_inv : (m : Meaning) (g : Settings) (k : ℕ) (A : Entry → Type 0) (W : Line → Type 0) (o : Output) (es : List Entry) → 1 ≤ k → ((e : Entry) → A e → Fit m e) → AllByRecursion A es → k ≤ size es → Inv m k A (Plus o.lines W) o.boxes → Inv m k A (Plus (release_part m g o es).lines W) (release_part m g o es).boxes
 part_inv m g k A W o es pos adm a l i = record {
   fresh = λ q x r. ⊎_elim (λ j. subst (λ n. n ≤ number) (new_number q j) (omega arith)) (λ w. let u = i.fresh q w r in omega (arith, u)) (split q x);
   lines = λ q x r. ⊎_elim (λ j. new_under q j) (λ w. let u = i.lines q w r in under_more (λ _ z. z) grow (back q.number (known_number pos i.fresh u.box)) u) (split q x);
-  kept = cond_both (below_mean losses (box_loss m b)) (offered m g.rho o.boxes.kept new) o.boxes.kept (All (λ x. Known m k A W' x.number x.ranges))
+  kept = cond_both (below_mean losses (box_loss m b)) (offered m g.rho o.boxes.kept new) o.boxes.kept (AllByRecursion (λ x. Known m k A W' x.number x.ranges))
       (λ _. All-take _ g.rho _ (all_in_order _ (kept_rank m) (o.boxes.kept ++ new ∷ []) (All-push _ o.boxes.kept new old_kept new_known))) (λ _. old_kept);
 }
   where
@@ -143,10 +143,10 @@ part_inv m g k A W o es pos adm a l i = record {
           covered = in_all _ es e.0 (box_covers m es (All-weaker A (Fit m) adm es a)) e.1;
         })
 
-    old_kept : All (λ x. Known m k A W' x.number x.ranges) o.boxes.kept
+    old_kept : AllByRecursion (λ x. Known m k A W' x.number x.ranges) o.boxes.kept
     old_kept = All-weaker _ _ (λ x k. known_more (λ _ z. z) grow (back x.number (known_number pos i.fresh k)) k) o.boxes.kept i.kept
 
-parts_inv : (m : Meaning) (g : Settings) (k : ℕ) (A : Entry → Type 0) (W : Line → Type 0) (ps : List (List Entry)) (o : Output) → 1 ≤ k → ((e : Entry) → A e → Fit m e) → All (All A) ps → All (λ p. k ≤ size p) ps → Inv m k A (Plus o.lines W) o.boxes → Inv m k A (Plus (fold (release_part m g) o ps).lines W) (fold (release_part m g) o ps).boxes
+parts_inv : (m : Meaning) (g : Settings) (k : ℕ) (A : Entry → Type 0) (W : Line → Type 0) (ps : List (List Entry)) (o : Output) → 1 ≤ k → ((e : Entry) → A e → Fit m e) → AllByRecursion (AllByRecursion A) ps → AllByRecursion (λ p. k ≤ size p) ps → Inv m k A (Plus o.lines W) o.boxes → Inv m k A (Plus (fold (release_part m g) o ps).lines W) (fold (release_part m g) o ps).boxes
 parts_inv m g k A W [] o p adm a l i = i
 parts_inv m g k A W (es ∷ ps) o p adm a l i = parts_inv m g k A W ps (release_part m g o es) p adm a.1 l.1 (part_inv m g k A W o es p adm a.0 l.0 i)
 
@@ -202,7 +202,7 @@ drain_inv m g A (suc n) W s pos adm a i =
 
 pub record Sound (m : Meaning) (g : Settings) (h : History) (s : State) : Type 0 where
   pub inv : Inv m (crowd g s) (In (accepted h)) (In (written h)) s.boxes
-  pub fit : All (Fit m) (accepted h)
+  pub fit : AllByRecursion (Fit m) (accepted h)
 
 judged_sound : (m : Meaning) (g : Settings) (h : History) (s : State) (c : Call) (v : Option Refusal) → refusal m s c ≡ v → 1 ≤ crowd g s → Good g h s → Sound m g h s → Sound m g ((judged m g s c v).exchange ∷ h) (judged m g s c v).after
 judged_sound m g h s (feeding r room) (Some x) e pos i t = record { inv = t.inv; fit = t.fit }
@@ -210,7 +210,7 @@ judged_sound m g h s (closing room) (Some x) e pos i t = record { inv = t.inv; f
 judged_sound m g h s (feeding r room) None e pos i t =
     let s' = arrive m g s (entered (s.accepted + 1) r) in
     let es = entered (length (accepted h) + 1) r ∷ accepted h in
-    let fit : All (Fit m) es = ((feeds m s r room e).values, t.fit) in
+    let fit : AllByRecursion (Fit m) es = ((feeds m s r room e).values, t.fit) in
     let after = serve_inv m g (In es) (In (written h)) s' (due g s') pos (λ e j. in_all (Fit m) es e fit j) (arrived_known m g h s r i) (due_in g s') (inv_same (λ _ j. inr j) (λ _ z. z) (λ _ z. z) t.inv) in
     record { inv = inv_same (λ _ z. z) (λ l y. append_in (serve_due m g s').lines (written h) l y) (λ l y. in_append (serve_due m g s').lines (written h) l y) after; fit = fit }
 judged_sound m g h s (closing room) None e pos i t =
@@ -231,11 +231,11 @@ known_box m k h number ranges x = record {
   alone = λ q y r n. (x.only q y r n).1 ∙ sym x.least;
 }
 
-pub boxed : {m : Meaning} {g : Settings} {h : History} {s : State} → Run m g h s → All (λ l. (l.manner ≡ Suppressed → ⊥) → Boxed m (crowd g s) h l) (written h)
+pub boxed : {m : Meaning} {g : Settings} {h : History} {s : State} → Run m g h s → AllByRecursion (λ l. (l.manner ≡ Suppressed → ⊥) → Boxed m (crowd g s) h l) (written h)
 boxed {m} {g} {h} {s} r = all_in _ (written h) (λ l i x.
     let u = (sound r).inv.lines l i x in
     record { whose = u.whose; accepts = u.real; writes = u.writes; covered = u.covered; box = known_box m (crowd g s) h l.number l.ranges u.box })
 
 -- each kept box was released, and names a crowd
-pub kept_boxes : {m : Meaning} {g : Settings} {h : History} {s : State} → Run m g h s → All (λ b. ReleasedBox m (crowd g s) h b.number b.ranges) s.boxes.kept
+pub kept_boxes : {m : Meaning} {g : Settings} {h : History} {s : State} → Run m g h s → AllByRecursion (λ b. ReleasedBox m (crowd g s) h b.number b.ranges) s.boxes.kept
 kept_boxes {m} {g} {h} {s} r = All-weaker _ _ (λ b x. known_box m (crowd g s) h b.number b.ranges x) s.boxes.kept (sound r).inv.kept

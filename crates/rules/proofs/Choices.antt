@@ -1,6 +1,6 @@
 -- The laws of the choices from lists.
 use Rattle.std.proofs.Common.{◌≡◌, ℕ, ◌<◌, ◌≤◌, Bool, true, false, cond, eqb, ltb, ◌⊎◌, List, [], ◌∷◌, ◌++◌, map, length, Some, None, filter, Option, sym, refl, ap, ◌∙◌, subst, inl, inr, ⊎_elim, arith}
-use Rattle.std.specs.List.{AllByRecursion as All}
+use Rattle.std.specs.List.{AllByRecursion}
 use Rattle.std.proofs.lemmas.List.{append-nil, map-append}
 use Rattle.std.proofs.lemmas.List.Elements.{filter-append}
 use Rattle.std.proofs.lemmas.Bool.{ne_eqb, eqb-true, eqb-false, eq-eqb, ltb-false, or_left}
@@ -46,12 +46,12 @@ module _ {X : Type 0} (key : X → ℕ) where
     ahead : List X
     behind : List X
     stands : xs ≡ ahead ++ x ∷ behind
-    fail : All (λ y. q y ≡ false) ahead
+    fail : AllByRecursion (λ y. q y ≡ false) ahead
     pass : q x ≡ true
 
   abbrev Split : (q : X → Bool) → List X → Option X → Type 0
   Split q xs (Some x) = SplitAt q xs x
-  Split q xs None = All (λ y. q y ≡ false) xs
+  Split q xs None = AllByRecursion (λ y. q y ≡ false) xs
 
   first_splits : (q : X → Bool) (xs : List X) → Split q xs (head (filter q xs))
   first_splits q [] = tt
@@ -218,7 +218,7 @@ merger_law c d hs = record { takes = merger_takes c d hs; closes = merger_closes
 
 -- ---- leftover owners
 
-joined_at : (q : List ℕ → Bool) (w : ℕ) (us vs : List (List ℕ)) (p : List ℕ) → All (λ y. q y ≡ false) us → q p ≡ true → joins_first q w (us ++ p ∷ vs) ≡ us ++ (p ++ w ∷ []) ∷ vs
+joined_at : (q : List ℕ → Bool) (w : ℕ) (us vs : List (List ℕ)) (p : List ℕ) → AllByRecursion (λ y. q y ≡ false) us → q p ≡ true → joins_first q w (us ++ p ∷ vs) ≡ us ++ (p ++ w ∷ []) ∷ vs
 joined_at q w [] vs p a e = ap (λ t. cond t ((p ++ w ∷ []) ∷ vs) (p ∷ joins_first q w vs)) e
 joined_at q w (u ∷ us) vs p a e = ap (λ t. cond t ((u ++ w ∷ []) ∷ (us ++ p ∷ vs)) (u ∷ joins_first q w (us ++ p ∷ vs))) a.0 ∙ ap (λ l. u ∷ l) (joined_at q w us vs p a.1 e)
 

@@ -1,6 +1,6 @@
 -- The third part of the promise, for every run: each suppression is due.
 use Rattle.std.proofs.Common.{◌≡◌, ℕ, zero, suc, ◌+◌, ◌*◌, ◌<◌, ◌≤◌, Bool, true, false, List, [], ◌∷◌, ◌++◌, map, length, Some, None, fold, filter, Option, sym, refl, ap, ◌∙◌, inl, inr, ⊎_elim, arith}
-use Rattle.std.specs.List.{AllByRecursion as All}
+use Rattle.std.specs.List.{AllByRecursion}
 use Rattle.std.proofs.ByRecursion.{All-append, All-map, All-weaker}
 use Rattle.std.proofs.lemmas.Bool.{eqb-true, leb-true, leb-false, ltb-true, ltb-false}
 use Rattle.domain.specs.Meaning.{Meaning}
@@ -29,8 +29,8 @@ use Rattle.release.specs.Manners.{manner_number}
 abbrev pub Says : Meaning → Settings → State → Held → Rule → Type 0
 Says m g s t large = crowd g s ≤ size (members t.label s.held)
 Says m g s t (covered b) = In s.boxes.kept b × (covers_entry m b.ranges t.entry ≡ true)
-Says m g s t outnumbered = (size (members t.label s.held) < crowd g s) × All (λ b. covers_entry m b.ranges t.entry ≡ false) s.boxes.kept × (length (clusters s.held) < 2 * larger t.label s.held)
-Says m g s t too_few = (size (members t.label s.held) < crowd g s) × All (λ b. covers_entry m b.ranges t.entry ≡ false) s.boxes.kept × (size (records s.held) < crowd g s)
+Says m g s t outnumbered = (size (members t.label s.held) < crowd g s) × AllByRecursion (λ b. covers_entry m b.ranges t.entry ≡ false) s.boxes.kept × (length (clusters s.held) < 2 * larger t.label s.held)
+Says m g s t too_few = (size (members t.label s.held) < crowd g s) × AllByRecursion (λ b. covers_entry m b.ranges t.entry ≡ false) s.boxes.kept × (size (records s.held) < crowd g s)
 Says m g s t joining = crowd g s ≤ size (records s.held)
 
 pub rule_says : (m : Meaning) (g : Settings) (s : State) (t : Held) → Says m g s t (rule m g s t)
@@ -56,17 +56,17 @@ pub record Late (m : Meaning) (g : Settings) (ts : List Turn) (l : Line) : Type 
   own : Writes l turn.who.entry
   held : In turn.before.held turn.who
   small : size (members turn.who.label turn.before.held) < crowd g turn.before
-  bare : All (λ b. covers_entry m b.ranges turn.who.entry ≡ false) turn.before.boxes.kept
+  bare : AllByRecursion (λ b. covers_entry m b.ranges turn.who.entry ≡ false) turn.before.boxes.kept
   why : NoCrowd g turn.before turn.who
 
 abbrev Explained : Meaning → Settings → List Turn → List Line → Type 0
-Explained m g ts ls = All (λ l. l.manner ≡ Suppressed → Late m g ts l) ls
+Explained m g ts ls = AllByRecursion (λ l. l.manner ≡ Suppressed → Late m g ts l) ls
 
 released_explained : (m : Meaning) (g : Settings) (ts : List Turn) (ps : List (List Entry)) (o : Output) → Explained m g ts o.lines → Explained m g ts (fold (release_part m g) o ps).lines
 released_explained m g ts [] o a = a
 released_explained m g ts (p ∷ ps) o a = released_explained m g ts ps (release_part m g o p) (All-append _ o.lines (map (λ e. line e Released (o.boxes.made + 1) (box_of m p)) p) a (All-map _ (λ e. line e Released (o.boxes.made + 1) (box_of m p)) p (each p)))
   where
-    each : (es : List Entry) → All (λ e. Released ≡ Suppressed → Late m g ts (line e Released (o.boxes.made + 1) (box_of m p))) es
+    each : (es : List Entry) → AllByRecursion (λ e. Released ≡ Suppressed → Late m g ts (line e Released (o.boxes.made + 1) (box_of m p))) es
     each [] = tt
     each (e ∷ es) = ((λ x. absurd (omega (arith, not_suppressed Released x))), each es)
 
@@ -101,14 +101,14 @@ drain_explained m g (suc n) s =
 abbrev OnTime : Meaning → Settings → State → List Turn → Line → Type 0
 OnTime m g s ts l = (x : Late m g ts l) × (deadline g x.turn.who.entry ≡ s.accepted)
 
-due_explained : (m : Meaning) (g : Settings) (s : State) (o : Option Held) → First (is_due g s) s.held o → All (λ l. l.manner ≡ Suppressed → OnTime m g s (serve m g s o).turns l) (serve m g s o).lines
+due_explained : (m : Meaning) (g : Settings) (s : State) (o : Option Held) → First (is_due g s) s.held o → AllByRecursion (λ l. l.manner ≡ Suppressed → OnTime m g s (serve m g s o).turns l) (serve m g s o).lines
 due_explained m g s None f = tt
 due_explained m g s (Some t) f = All-weaker _ _ (λ l w e. let x = w e in (x, own x ∙ eqb-true _ _ f.1)) (turn m g s t).lines (applied_explained m g s t (rule m g s t) f.0 (rule_says m g s t))
   where
     own : {l : Line} (x : Late m g (record { who = t; before = s } ∷ []) l) → deadline g x.turn.who.entry ≡ deadline g t.entry
     own x = ⊎_elim (λ e. ap (λ z. deadline g z.who.entry) (sym e)) absurd x.its
 
-judged_fair : (m : Meaning) (g : Settings) (h : History) (s : State) (c : Call) (v : Option Refusal) → s.accepted ≡ length (accepted h) → All (λ l. l.manner ≡ Suppressed → Due m g (judged m g s c v).exchange h l) (lines_of (judged m g s c v).exchange.got)
+judged_fair : (m : Meaning) (g : Settings) (h : History) (s : State) (c : Call) (v : Option Refusal) → s.accepted ≡ length (accepted h) → AllByRecursion (λ l. l.manner ≡ Suppressed → Due m g (judged m g s c v).exchange h l) (lines_of (judged m g s c v).exchange.got)
 judged_fair m g h s c (Some x) e = tt
 judged_fair m g h s (feeding r room) None e =
     let s' = arrive m g s (entered (s.accepted + 1) r) in

@@ -1,6 +1,6 @@
 -- What a turn leaves of bounds, orders and counts.
 use Rattle.std.proofs.Common.{◌≡◌, ℕ, zero, suc, ◌+◌, ◌<◌, ◌≤◌, Bool, true, false, cond, not, eqb, List, [], ◌∷◌, ◌++◌, map, length, take, Some, None, fold, filter, Option, refl, ap, ◌∙◌, subst, arith, length-take}
-use Rattle.std.specs.List.{AllByRecursion as All}
+use Rattle.std.specs.List.{AllByRecursion}
 use Rattle.std.proofs.lemmas.List.{length-append, length-map}
 use Rattle.std.proofs.ByRecursion.{All-append, All-weaker, all_kept_by, All-map, All-push}
 use Rattle.std.proofs.lemmas.Bool.{cond_both}
@@ -48,7 +48,7 @@ merged_position c d (h ∷ hs) a = (
   merged_position c d hs a.1,
 )
 
-pub push_position : (n : ℕ) (hs : List Held) (x : Held) → All (λ h. h.entry.position ≤ n) hs → n < x.entry.position → ByPosition hs → ByPosition (hs ++ x ∷ [])
+pub push_position : (n : ℕ) (hs : List Held) (x : Held) → AllByRecursion (λ h. h.entry.position ≤ n) hs → n < x.entry.position → ByPosition hs → ByPosition (hs ++ x ∷ [])
 push_position n [] x b l a = (tt, tt)
 push_position n (h ∷ hs) x b l a = (All-push (λ z. h.entry.position < z.entry.position) hs x a.0 (omega (arith, b.0, l)), push_position n hs x b.1 l a.1)
 
@@ -59,7 +59,7 @@ labels hs = map (λ h. h.label) hs
 
 -- no label that was not there
 abbrev pub OldLabels : List Held → List Held → Type 0
-OldLabels hs xs = All (λ h. In (labels hs) h.label) xs
+OldLabels hs xs = AllByRecursion (λ h. In (labels hs) h.label) xs
 
 pub labels_self : (hs : List Held) → OldLabels hs hs
 labels_self hs = all_in _ hs (λ h i. in_map (λ (h : Held). h.label) hs h i)
@@ -107,7 +107,7 @@ record Out (m : Meaning) (g : Settings) (o p : Output) : Type 0 where
   hidden : suppressed_lines p.lines ≡ suppressed_lines o.lines
   more : o.boxes.made ≤ p.boxes.made
   made : p.boxes.made + length o.lines ≤ o.boxes.made + length p.lines
-  numbers : (n : ℕ) → n ≤ o.boxes.made → All (Numbered n o.boxes.made) o.lines → All (Numbered n p.boxes.made) p.lines
+  numbers : (n : ℕ) → n ≤ o.boxes.made → AllByRecursion (Numbered n o.boxes.made) o.lines → AllByRecursion (Numbered n p.boxes.made) p.lines
 
 part_out : (m : Meaning) (g : Settings) (o : Output) (es : List Entry) → 1 ≤ length es → Out m g o (release_part m g o es)
 part_out m g o es l =
@@ -129,11 +129,11 @@ part_out m g o es l =
         zeros [] = refl
         zeros (e ∷ es) = omega (arith, zeros es)
 
-    each : (n : ℕ) → n ≤ o.boxes.made → (xs : List Entry) → All (λ e. Numbered n (o.boxes.made + 1) (line e Released (o.boxes.made + 1) (box_of m es))) xs
+    each : (n : ℕ) → n ≤ o.boxes.made → (xs : List Entry) → AllByRecursion (λ e. Numbered n (o.boxes.made + 1) (line e Released (o.boxes.made + 1) (box_of m es))) xs
     each n u [] = tt
     each n u (x ∷ xs) = ((λ _. (omega (arith, u), omega arith)), each n u xs)
 
-parts_out : (m : Meaning) (g : Settings) (ps : List (List Entry)) (o : Output) → All (λ p. 1 ≤ length p) ps → Out m g o (fold (release_part m g) o ps)
+parts_out : (m : Meaning) (g : Settings) (ps : List (List Entry)) (o : Output) → AllByRecursion (λ p. 1 ≤ length p) ps → Out m g o (fold (release_part m g) o ps)
 parts_out m g [] o a = record { boxes = λ k. k; hidden = refl; more = omega arith; made = omega arith; numbers = λ n u x. x }
 parts_out m g (p ∷ ps) o a =
     let x = part_out m g o p a.0 in
@@ -156,7 +156,7 @@ pub record Turned (m : Meaning) (g : Settings) (s : State) (ls : List Line) (t :
   pub hidden : t.suppressed ≡ s.suppressed + suppressed_lines ls
   pub more : s.boxes.made ≤ t.boxes.made
   pub made : t.boxes.made ≤ s.boxes.made + length ls
-  pub numbers : All (Numbered s.boxes.made t.boxes.made) ls
+  pub numbers : AllByRecursion (Numbered s.boxes.made t.boxes.made) ls
 
 some_owner : (k : ℕ) (es : List Entry) → 1 ≤ k → k ≤ size es → 1 ≤ length es
 some_owner k [] a l = omega (arith, a, l)

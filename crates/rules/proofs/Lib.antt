@@ -18,3 +18,4 @@ pub mod Reasons
 pub mod Opened
 pub mod Between
 pub mod Rounds
+pub mod KeeperRanks

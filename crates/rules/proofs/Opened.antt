@@ -1,6 +1,6 @@
 -- The open clusters of held records that change: `clusters` is the one ascending list that has their labels.
 use Rattle.std.proofs.Common.{◌≡◌, ℕ, ◌<◌, Bool, true, false, cond, not, eqb, ◌⊎◌, List, [], ◌∷◌, ◌++◌, map, filter, sym, refl, ap, ◌∙◌, subst, inl, inr, ⊎_elim, arith}
-use Rattle.std.specs.List.{AllByRecursion as All}
+use Rattle.std.specs.List.{AllByRecursion}
 use Rattle.std.proofs.ByRecursion.{all_kept_by}
 use Rattle.std.proofs.lemmas.Bool.{eq-eqb, ne_eqb, eqb-true, eqb-false, not-true, not_from_false}
 use Rattle.keeper.proofs.Filters.{kept_by_within}
@@ -28,7 +28,7 @@ ascending_same (x ∷ xs) (y ∷ ys) h k f g =
     first (inr i) (inl e) = e
     first (inr i) (inr j) = absurd (omega (arith, in_all (λ z. y < z) ys x k.0 i, in_all (λ z. x < z) xs y h.0 j))
 
-    behind : (z a b : ℕ) (us bs : List ℕ) → All (λ u. a < u) us → In us z → a ≡ b → (b ≡ z) ⊎ In bs z → In bs z
+    behind : (z a b : ℕ) (us bs : List ℕ) → AllByRecursion (λ u. a < u) us → In us z → a ≡ b → (b ≡ z) ⊎ In bs z → In bs z
     behind z a b us bs l i e (inl f) = absurd (omega (arith, in_all (λ u. a < u) us z l i, e, f))
     behind z a b us bs l i e (inr j) = j
 
@@ -40,7 +40,7 @@ ascending_kept p (x ∷ xs) h = go (ascending_kept p xs h.1) (p x)
     go ih true = (all_kept_by p (λ y. x < y) xs h.0, ih)
     go ih false = ih
 
-pub ascending_push : (xs : List ℕ) (x : ℕ) → Ascending xs → All (λ y. y < x) xs → Ascending (xs ++ x ∷ [])
+pub ascending_push : (xs : List ℕ) (x : ℕ) → Ascending xs → AllByRecursion (λ y. y < x) xs → Ascending (xs ++ x ∷ [])
 ascending_push [] x h k = (tt, tt)
 ascending_push (y ∷ ys) x h k = (all_in (λ z. y < z) (ys ++ x ∷ []) (λ z i. above z (in_append ys (x ∷ []) z i)), ascending_push ys x h.1 k.1)
   where
@@ -84,7 +84,7 @@ clusters_push_old hs x o =
     either h (inr (inl e)) = subst (λ (z : Held). In (clusters hs) z.label) e o
     either h (inr (inr n)) = absurd n
 
-pub clusters_push_new : (hs : List Held) (x : Held) → All (λ h. h.label < x.label) hs → clusters (hs ++ x ∷ []) ≡ clusters hs ++ x.label ∷ []
+pub clusters_push_new : (hs : List Held) (x : Held) → AllByRecursion (λ h. h.label < x.label) hs → clusters (hs ++ x ∷ []) ≡ clusters hs ++ x.label ∷ []
 clusters_push_new hs x new =
     let law = clusters_law hs in
     clusters_same (hs ++ x ∷ []) (clusters hs ++ x.label ∷ [])

@@ -1,6 +1,6 @@
 -- A split is a partition: each record of the cluster is in exactly one part, and each part names k owners at least.
 use Rattle.std.proofs.Common.{◌≡◌, ℕ, zero, suc, ◌+◌, ◌-◌, ◌*◌, ◌<◌, ◌≤◌, Bool, true, false, cond, not, ◌||◌, eqb, ltb, leb, List, [], ◌∷◌, ◌++◌, map, length, Some, None, fold, filter, Option, sym, refl, ap, ◌∙◌, subst, inl, ⊎_elim, arith, length-take}
-use Rattle.std.specs.List.{AllByRecursion as All}
+use Rattle.std.specs.List.{AllByRecursion}
 use Rattle.std.specs.Option.{option_map}
 use Rattle.std.proofs.ByRecursion.{all_kept_by}
 use Rattle.std.proofs.lemmas.Bool.{eqb-true, eq-eqb, leb-true, leb-false, ltb-false, cond_both}
@@ -98,7 +98,7 @@ cut_times m k es (suc n) ws pos once o = go (next_part m k es ws) (next_is m k e
         omega (arith, ih p a, r)
 
 abbrev pub Wide : ℕ → List (List ℕ) → Type 0
-Wide k ps = All (λ p. k ≤ length p) ps
+Wide k ps = AllByRecursion (λ p. k ≤ length p) ps
 
 pub cut_wide : (m : Meaning) (k : ℕ) (es : List Entry) (n : ℕ) (ws : List ℕ) → 1 ≤ k → Apart ws → Wide k (cut m k es n ws).made
 cut_wide m k es zero ws pos once = tt
@@ -217,7 +217,7 @@ parts_none : (f : Entry → ℕ) (ps : List (List ℕ)) → totals f (map (part 
 parts_none f [] = refl
 parts_none f (p ∷ ps) = omega (arith, parts_none f ps)
 
-parted : (f : Entry → ℕ) (es : List Entry) (ps : List (List ℕ)) → All (λ e. total (λ p. cond (listed (owner e) p) 1 0) ps ≡ 1) es → totals f (map (part es) ps) ≡ total f es
+parted : (f : Entry → ℕ) (es : List Entry) (ps : List (List ℕ)) → AllByRecursion (λ e. total (λ p. cond (listed (owner e) p) 1 0) ps ≡ 1) es → totals f (map (part es) ps) ≡ total f es
 parted f [] ps a = parts_none f ps
 parted f (e ∷ es) ps a = omega (arith, parts_cons f e es ps, marked_once (λ p. listed (owner e) p) (f e) ps a.0, parted f es ps a.1)
 
@@ -228,10 +228,10 @@ parts_total f m k es pos = cond_both (ltb (size es) (2 * k)) (es ∷ []) (map (p
     let once : grouped (owner x) (split m k es) ≡ 1 = split_times m k es pos (omega (arith, big)) (owner x) ∙ mark (in_listed (owner x) (map owner es) (in_map owner es x i)) in
     marks (owner x) (split m k es) (omega (arith, once)) ∙ once)))
 
-pub parts_all : (P : Entry → Type 0) (m : Meaning) (k : ℕ) (es : List Entry) → All P es → All (All P) (parts m k es)
-parts_all P m k es a = cond_both (ltb (size es) (2 * k)) (es ∷ []) (map (part es) (split m k es)) (All (All P)) (λ _. (a, tt)) (λ _. each (split m k es))
+pub parts_all : (P : Entry → Type 0) (m : Meaning) (k : ℕ) (es : List Entry) → AllByRecursion P es → AllByRecursion (AllByRecursion P) (parts m k es)
+parts_all P m k es a = cond_both (ltb (size es) (2 * k)) (es ∷ []) (map (part es) (split m k es)) (AllByRecursion (AllByRecursion P)) (λ _. (a, tt)) (λ _. each (split m k es))
   where
-    each : (ps : List (List ℕ)) → All (All P) (map (part es) ps)
+    each : (ps : List (List ℕ)) → AllByRecursion (AllByRecursion P) (map (part es) ps)
     each [] = tt
     each (p ∷ ps) = (all_kept_by (λ e. listed (owner e) p) P es a, each ps)
 
@@ -262,10 +262,10 @@ part_size es p h = subst (λ ws. length p ≤ length (different ws)) (sym (map_k
         let some : 1 ≤ times o (filter (λ w. listed w p) (map owner es)) = omega (arith, same, listed_le o (map owner es), mark e) in
         omega (arith, h o, mark e, times_different o (filter (λ w. listed w p) (map owner es)), mark (times_listed o (filter (λ w. listed w p) (map owner es)) some))
 
-all_large : (es : List Entry) (k : ℕ) (ps : List (List ℕ)) → ((o : ℕ) → grouped o ps ≤ cond (listed o (map owner es)) 1 0) → Wide k ps → All (λ p. k ≤ size p) (map (part es) ps)
+all_large : (es : List Entry) (k : ℕ) (ps : List (List ℕ)) → ((o : ℕ) → grouped o ps ≤ cond (listed o (map owner es)) 1 0) → Wide k ps → AllByRecursion (λ p. k ≤ size p) (map (part es) ps)
 all_large es k [] h a = tt
 all_large es k (p ∷ ps) h a = (omega (arith, a.0, part_size es p (λ o. omega (arith, h o))), all_large es k ps (λ o. omega (arith, h o)) a.1)
 
-pub parts_large : (m : Meaning) (k : ℕ) (es : List Entry) → 1 ≤ k → k ≤ size es → All (λ p. k ≤ size p) (parts m k es)
-parts_large m k es pos l = cond_both (ltb (size es) (2 * k)) (es ∷ []) (map (part es) (split m k es)) (All (λ p. k ≤ size p)) (λ _. (l, tt))
+pub parts_large : (m : Meaning) (k : ℕ) (es : List Entry) → 1 ≤ k → k ≤ size es → AllByRecursion (λ p. k ≤ size p) (parts m k es)
+parts_large m k es pos l = cond_both (ltb (size es) (2 * k)) (es ∷ []) (map (part es) (split m k es)) (AllByRecursion (λ p. k ≤ size p)) (λ _. (l, tt))
     (λ _. all_large es k (split m k es) (λ o. omega (arith, split_times m k es pos l o)) (split_wide m k es pos))

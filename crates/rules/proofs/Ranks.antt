@@ -1,6 +1,6 @@
 -- Lists in order of rank, and one item more among them.
 use Rattle.std.proofs.Common.{◌≡◌, ℕ, zero, suc, ◌+◌, min, Bool, true, false, cond, not, List, [], ◌∷◌, ◌++◌, take, drop, fold, filter, sym, refl, ap, ◌∙◌, arith, length-take}
-use Rattle.std.specs.List.{AllByRecursion as All}
+use Rattle.std.specs.List.{AllByRecursion}
 use Rattle.std.proofs.lemmas.List.{take-take, append-nil}
 use Rattle.std.proofs.ByRecursion.{All-append, All-weaker, all_kept_by, All-take, All-drop, kept_by_passes}
 use Rattle.std.proofs.lemmas.Bool.{not-true, cond-false}
@@ -25,7 +25,7 @@ lower_chain a b c h k = grind (arith, nat_tests)
 module _ {X : Type 0} (rank : X → Rank) where
   -- ---- `in_order` is in order
 
-  by_rank_append : (xs ys : List X) → ByRank rank xs → ByRank rank ys → All (λ x. NoneLower rank x ys) xs → ByRank rank (xs ++ ys)
+  by_rank_append : (xs ys : List X) → ByRank rank xs → ByRank rank ys → AllByRecursion (λ x. NoneLower rank x ys) xs → ByRank rank (xs ++ ys)
   by_rank_append [] ys h k a = k
   by_rank_append (x ∷ xs) ys h k a = (All-append _ xs ys h.0 a.0, by_rank_append xs ys h.1 k a.1)
 
@@ -55,7 +55,7 @@ module _ {X : Type 0} (rank : X → Rank) where
   by_rank_take (suc n) (x ∷ xs) h = (All-take _ n xs h.0, by_rank_take n xs h.1)
 
   -- the first n beside those beyond
-  take_drop_lower : (n : ℕ) (xs : List X) → ByRank rank xs → All (λ x. NoneLower rank x (drop n xs)) (take n xs)
+  take_drop_lower : (n : ℕ) (xs : List X) → ByRank rank xs → AllByRecursion (λ x. NoneLower rank x (drop n xs)) (take n xs)
   take_drop_lower zero xs h = tt
   take_drop_lower (suc n) [] h = tt
   take_drop_lower (suc n) (x ∷ xs) h = (All-drop _ n xs h.0, take_drop_lower n xs h.1)
@@ -83,11 +83,11 @@ module _ {X : Type 0} (rank : X → Rank) where
   back x [] = x ∷ []
   back x (y ∷ ys) = cond (lower (rank x) (rank y)) (x ∷ y ∷ ys) (y ∷ back x ys)
 
-  kept_none : (p : X → Bool) (xs : List X) → All (λ x. p x ≡ false) xs → filter p xs ≡ []
+  kept_none : (p : X → Bool) (xs : List X) → AllByRecursion (λ x. p x ≡ false) xs → filter p xs ≡ []
   kept_none p [] h = refl
   kept_none p (x ∷ xs) h = cond-false (p x) _ _ h.0 ∙ kept_none p xs h.1
 
-  kept_all : (p : X → Bool) (xs : List X) → All (λ x. p x ≡ false) xs → filter (λ x. not (p x)) xs ≡ xs
+  kept_all : (p : X → Bool) (xs : List X) → AllByRecursion (λ x. p x ≡ false) xs → filter (λ x. not (p x)) xs ≡ xs
   kept_all p [] h = refl
   kept_all p (x ∷ xs) h = ap (λ t. cond (not t) (x ∷ filter (λ x. not (p x)) xs) (filter (λ x. not (p x)) xs)) h.0 ∙ ap (λ l. x ∷ l) (kept_all p xs h.1)
 
@@ -102,7 +102,7 @@ module _ {X : Type 0} (rank : X → Rank) where
           → cond t (y ∷ filter (λ z. lower (rank z) (rank x)) ys) (filter (λ z. lower (rank z) (rank x)) ys) ++ x ∷ cond (not t) (y ∷ filter (λ z. not (lower (rank z) (rank x))) ys) (filter (λ z. not (lower (rank z) (rank x))) ys) ≡ cond t (y ∷ front x ys) (x ∷ y ∷ ys)
       go true e ih = ap (λ l. y ∷ l) ih
       go false e ih =
-          let none : All (λ z. lower (rank z) (rank x) ≡ false) ys = All-weaker _ _ (λ z f. chain (rank x) (rank y) (rank z) e f) ys h.0 in
+          let none : AllByRecursion (λ z. lower (rank z) (rank x) ≡ false) ys = All-weaker _ _ (λ z f. chain (rank x) (rank y) (rank z) e f) ys h.0 in
           ap (λ l. l ++ x ∷ y ∷ filter (λ z. not (lower (rank z) (rank x))) ys) (kept_none low ys none) ∙ ap (λ l. x ∷ y ∷ l) (kept_all low ys none)
 
   front_back : (x b : X) (ys : List X) → front x (back b ys) ≡ back b (front x ys)

@@ -1,6 +1,6 @@
 -- What a call that is not refused tells, and what the first that passes is.
 use Rattle.std.proofs.Common.{◌≡◌, ℕ, zero, suc, ◌+◌, ◌<◌, ◌≤◌, Bool, true, false, cond, not, ◌&&◌, eqb, ltb, leb, List, [], ◌∷◌, map, length, Some, None, filter, Option, refl, subst, arith}
-use Rattle.std.specs.List.{range_with_len, AllByRecursion as All}
+use Rattle.std.specs.List.{range_with_len, AllByRecursion}
 use Rattle.std.specs.Option.{option_map}
 use Rattle.std.proofs.lemmas.Bool.{and_parts, not-false, leb-true, leb-false, ltb-false}
 use Rattle.domain.specs.Ranges.{span, within}
@@ -21,13 +21,13 @@ use Rattle.rules.proofs.Totals.{Picked, kept_in}
 
 abbrev pub First : {X : Type 0} → (X → Bool) → List X → Option X → Type 0
 First p xs (Some x) = In xs x × (p x ≡ true)
-First p xs None = All (λ x. p x ≡ false) xs
+First p xs None = AllByRecursion (λ x. p x ≡ false) xs
 
-none_kept : {X : Type 0} (p : X → Bool) (xs : List X) → length (filter p xs) ≤ 0 → All (λ x. p x ≡ false) xs
+none_kept : {X : Type 0} (p : X → Bool) (xs : List X) → length (filter p xs) ≤ 0 → AllByRecursion (λ x. p x ≡ false) xs
 none_kept p [] l = tt
 none_kept p (x ∷ xs) l = go (p x) refl l (none_kept p xs)
   where
-    go : (b : Bool) → p x ≡ b → length (cond b (x ∷ filter p xs) (filter p xs)) ≤ 0 → (length (filter p xs) ≤ 0 → All (λ x. p x ≡ false) xs) → All (λ x. p x ≡ false) (x ∷ xs)
+    go : (b : Bool) → p x ≡ b → length (cond b (x ∷ filter p xs) (filter p xs)) ≤ 0 → (length (filter p xs) ≤ 0 → AllByRecursion (λ x. p x ≡ false) xs) → AllByRecursion (λ x. p x ≡ false) (x ∷ xs)
     go true e l ih = absurd (omega (arith, l))
     go false e l ih = (e, ih l)
 
@@ -106,13 +106,13 @@ pub record Feeds (m : Meaning) (s : State) (r : Record) (room : ℕ) : Type 0 wh
   pub owned : eqb r.owner 0 ≡ false
   pub values : Admitted m r.values
 
-all_fit : (m : Meaning) (vs : List ℕ) (is : List ℕ) → first_of (map (λ i. if_so (not (admits_of m i (value_at vs i))) (i + 2)) is) ≡ None → All (λ i. admits_of m i (value_at vs i) ≡ true) is
+all_fit : (m : Meaning) (vs : List ℕ) (is : List ℕ) → first_of (map (λ i. if_so (not (admits_of m i (value_at vs i))) (i + 2)) is) ≡ None → AllByRecursion (λ i. admits_of m i (value_at vs i) ≡ true) is
 all_fit m vs [] e = tt
 all_fit m vs (i ∷ is) e =
     let a = first_none (if_so (not (admits_of m i (value_at vs i))) (i + 2)) (map (λ i. if_so (not (admits_of m i (value_at vs i))) (i + 2)) is) e in
     (not-false _ (if_none (not (admits_of m i (value_at vs i))) (i + 2) a.0), all_fit m vs is a.1)
 
-all_counting : (P : ℕ → Type 0) (a n : ℕ) → All P (range_with_len a n) → (i : ℕ) → a ≤ i → i < a + n → P i
+all_counting : (P : ℕ → Type 0) (a n : ℕ) → AllByRecursion P (range_with_len a n) → (i : ℕ) → a ≤ i → i < a + n → P i
 all_counting P a zero h i l u = absurd (omega (arith, l, u))
 all_counting P a (suc n) h i l u = go (leb (a + 1) i) refl (all_counting P (a + 1) n h.1 i)
   where

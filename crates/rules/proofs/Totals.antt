@@ -1,6 +1,6 @@
 -- Totals over lists, and what stands in them.
 use Rattle.std.proofs.Common.{◌≡◌, ℕ, zero, suc, ◌+◌, ◌≤◌, Bool, true, false, cond, not, eqb, ◌⊎◌, List, [], ◌∷◌, ◌++◌, map, length, take, Some, None, filter, Option, sym, refl, ap, ◌∙◌, subst, inl, inr, ⊎_elim, arith}
-use Rattle.std.specs.List.{AllByRecursion as All}
+use Rattle.std.specs.List.{AllByRecursion}
 use Rattle.std.proofs.lemmas.Bool.{eqb-true, eq-eqb, ne_eqb, cases_Bool, both_ways}
 use Rattle.rules.specs.Choosing.{In, total, head, chosen, Rank, lower, in_order, lowest_ranked}
 use Rattle.rules.specs.Promise.{one}
@@ -93,11 +93,11 @@ module _ {X : Type 0} where
   in_total f [] x i = absurd i
   in_total f (y ∷ xs) x i = ⊎_elim (λ e. omega (arith, ap f e)) (λ j. omega (arith, in_total f xs x j)) i
 
-  pub all_in : (P : X → Type 0) (xs : List X) → ((x : X) → In xs x → P x) → All P xs
+  pub all_in : (P : X → Type 0) (xs : List X) → ((x : X) → In xs x → P x) → AllByRecursion P xs
   all_in P [] h = tt
   all_in P (x ∷ xs) h = (h x (inl refl), all_in P xs (λ y i. h y (inr i)))
 
-  pub in_all : (P : X → Type 0) (xs : List X) (x : X) → All P xs → In xs x → P x
+  pub in_all : (P : X → Type 0) (xs : List X) (x : X) → AllByRecursion P xs → In xs x → P x
   in_all P [] x a i = absurd i
   in_all P (y ∷ xs) x a i = ⊎_elim (λ e. subst P e a.0) (λ j. in_all P xs x a.1 j) i
 
@@ -155,7 +155,7 @@ module _ {X : Type 0} where
   pub length_in_order : (rank : X → Rank) (xs : List X) → length (in_order rank xs) ≡ length xs
   length_in_order rank xs = sym (length_total (in_order rank xs)) ∙ total_in_order (λ _. 1) rank xs ∙ length_total xs
 
-  pub all_in_order : (P : X → Type 0) (rank : X → Rank) (xs : List X) → All P xs → All P (in_order rank xs)
+  pub all_in_order : (P : X → Type 0) (rank : X → Rank) (xs : List X) → AllByRecursion P xs → AllByRecursion P (in_order rank xs)
   all_in_order P rank [] a = tt
   all_in_order P rank (x ∷ xs) a =
       let ih = all_in_order P rank xs a.1 in

@@ -1,6 +1,6 @@
 -- What a turn does to the held records: each stays or is written, once, and its own is written.
 use Rattle.std.proofs.Common.{◌≡◌, ℕ, zero, suc, ◌+◌, ◌≤◌, Bool, true, false, cond, not, eqb, leb, List, [], ◌∷◌, map, length, Some, None, fold, filter, Option, sym, refl, ap, ◌∙◌, subst, arith}
-use Rattle.std.specs.List.{AllByRecursion as All}
+use Rattle.std.specs.List.{AllByRecursion}
 use Rattle.std.proofs.ByRecursion.{all_kept_by, All-append, All-map}
 use Rattle.std.proofs.lemmas.Bool.{eqb-true, eq-eqb, leb-true, cond_both, cond-true}
 use Rattle.domain.specs.Meaning.{Meaning}
@@ -227,46 +227,46 @@ abbrev pub Of : (Entry → Type 0) → Line → Type 0
 Of P l = (e : Entry) × P e × Writes l e
 
 abbrev pub Holds : (Entry → Type 0) → List Held → Type 0
-Holds P hs = All (λ r. P r.entry) hs
+Holds P hs = AllByRecursion (λ r. P r.entry) hs
 
-released_all : (P : Entry → Type 0) (m : Meaning) (g : Settings) (ps : List (List Entry)) (o : Output) → All (All P) ps → All (Of P) o.lines → All (Of P) (fold (release_part m g) o ps).lines
+released_all : (P : Entry → Type 0) (m : Meaning) (g : Settings) (ps : List (List Entry)) (o : Output) → AllByRecursion (AllByRecursion P) ps → AllByRecursion (Of P) o.lines → AllByRecursion (Of P) (fold (release_part m g) o ps).lines
 released_all P m g [] o a b = b
 released_all P m g (p ∷ ps) o a b =
     let number = o.boxes.made + 1 in
     let bx = box_of m p in
     released_all P m g ps (release_part m g o p) a.1 (All-append (Of P) o.lines (map (λ e. line e Released number bx) p) b (All-map (Of P) (λ e. line e Released number bx) p (lines p a.0)))
   where
-    lines : (es : List Entry) → All P es → All (λ e. Of P (line e Released (o.boxes.made + 1) (box_of m p))) es
+    lines : (es : List Entry) → AllByRecursion P es → AllByRecursion (λ e. Of P (line e Released (o.boxes.made + 1) (box_of m p))) es
     lines [] a = tt
     lines (e ∷ es) a = ((e, a.0, (refl, refl)), lines es a.1)
 
-pub all_records : (P : Entry → Type 0) (hs : List Held) → Holds P hs → All P (records hs)
+pub all_records : (P : Entry → Type 0) (hs : List Held) → Holds P hs → AllByRecursion P (records hs)
 all_records P hs a = All-map P (λ (h : Held). h.entry) hs a
 
-all_held : (P : Entry → Type 0) (hs : List Held) → All P (records hs) → Holds P hs
+all_held : (P : Entry → Type 0) (hs : List Held) → AllByRecursion P (records hs) → Holds P hs
 all_held P [] a = tt
 all_held P (h ∷ hs) a = (a.0, all_held P hs a.1)
 
 -- taking over loses and makes up no record
 pub grown_holds : (P : Entry → Type 0) (m : Meaning) (g : Settings) (s : State) (c : ℕ) → Holds P s.held → Holds P (grown m g s c).held
-grown_holds P m g s c a = all_held P (grown m g s c).held (subst (All P) (sym (take_over_records m (crowd g s) (length s.held) c s.held)) (all_records P s.held a))
+grown_holds P m g s c a = all_held P (grown m g s c).held (subst (AllByRecursion P) (sym (take_over_records m (crowd g s) (length s.held) c s.held)) (all_records P s.held a))
 
-pub members_all : (P : Entry → Type 0) (c : ℕ) (hs : List Held) → Holds P hs → All P (members c hs)
+pub members_all : (P : Entry → Type 0) (c : ℕ) (hs : List Held) → Holds P hs → AllByRecursion P (members c hs)
 members_all P c hs a = all_records P _ (all_kept_by (λ h. eqb h.label c) (λ r. P r.entry) hs a)
 
-release_all : (P : Entry → Type 0) (m : Meaning) (g : Settings) (s : State) (c : ℕ) → Holds P s.held → Holds P (release m g s c).after.held × All (Of P) (release m g s c).lines
+release_all : (P : Entry → Type 0) (m : Meaning) (g : Settings) (s : State) (c : ℕ) → Holds P s.held → Holds P (release m g s c).after.held × AllByRecursion (Of P) (release m g s c).lines
 release_all P m g s c a = (
   all_kept_by (λ h. not (eqb h.label c)) (λ r. P r.entry) s.held a,
   released_all P m g (parts m (crowd g s) (members c s.held)) (record { lines = []; boxes = s.boxes }) (parts_all P m (crowd g s) (members c s.held) (members_all P c s.held a)) tt,
 )
 
-leave_all : (P : Entry → Type 0) (hs : List Held) (t : Held) (how : Manner) (number : ℕ) (b : Box) → In hs t → Holds P hs → Holds P (without t hs) × All (Of P) (line t.entry how number b ∷ [])
+leave_all : (P : Entry → Type 0) (hs : List Held) (t : Held) (how : Manner) (number : ℕ) (b : Box) → In hs t → Holds P hs → Holds P (without t hs) × AllByRecursion (Of P) (line t.entry how number b ∷ [])
 leave_all P hs t how number b i a = (
   all_kept_by (λ h. not (eqb h.entry.position t.entry.position)) (λ r. P r.entry) hs a,
   ((t.entry, in_all (λ (r : Held). P r.entry) hs t a i, (refl, refl)), tt),
 )
 
-pub applied_all : (P : Entry → Type 0) (m : Meaning) (g : Settings) (s : State) (t : Held) (r : Rule) → In s.held t → Holds P s.held → Holds P (applied m g s t r).after.held × All (Of P) (applied m g s t r).lines
+pub applied_all : (P : Entry → Type 0) (m : Meaning) (g : Settings) (s : State) (t : Held) (r : Rule) → In s.held t → Holds P s.held → Holds P (applied m g s t r).after.held × AllByRecursion (Of P) (applied m g s t r).lines
 applied_all P m g s t large i a = release_all P m g s t.label a
 applied_all P m g s t (covered b) i a = leave_all P s.held t Reused b.number b.ranges i a
 applied_all P m g s t outnumbered i a = leave_all P s.held t Suppressed 0 no_box i a

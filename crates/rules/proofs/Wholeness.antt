@@ -1,6 +1,6 @@
 -- The first part of the promise, for every run: nothing is lost, nothing doubled, nothing late.
 use Rattle.std.proofs.Common.{◌≡◌, ℕ, zero, suc, ◌+◌, ◌<◌, ◌≤◌, Bool, true, false, cond, eqb, leb, List, [], ◌∷◌, length, Some, None, filter, Option, sym, refl, ap, ◌∙◌, subst, inl, inr, arith}
-use Rattle.std.specs.List.{AllByRecursion as All}
+use Rattle.std.specs.List.{AllByRecursion}
 use Rattle.std.proofs.ByRecursion.{All-append, All-weaker, All-push}
 use Rattle.std.proofs.lemmas.Bool.{eqb-true, eqb-false, eq-eqb, ne_eqb, leb-true, leb-false}
 use Rattle.domain.specs.Meaning.{Meaning}
@@ -37,7 +37,7 @@ serve_moves m g s (Some t) k a i =
     let same = applied_same m g s t (rule m g s t) in
     record { sums = λ w. applied_total w m g s t (rule m g s t) k (i t refl) (a t.entry.position); tally = same.0; shut = same.1 }
 
-pub serve_all : (P : Entry → Type 0) (m : Meaning) (g : Settings) (s : State) (o : Option Held) → ((t : Held) → o ≡ Some t → In s.held t) → Holds P s.held → Holds P (serve m g s o).after.held × All (Of P) (serve m g s o).lines
+pub serve_all : (P : Entry → Type 0) (m : Meaning) (g : Settings) (s : State) (o : Option Held) → ((t : Held) → o ≡ Some t → In s.held t) → Holds P s.held → Holds P (serve m g s o).after.held × AllByRecursion (Of P) (serve m g s o).lines
 serve_all P m g s None i a = (a, tt)
 serve_all P m g s (Some t) i a = applied_all P m g s t (rule m g s t) (i t refl) a
 
@@ -68,7 +68,7 @@ due_in g s t e = (kept_in (is_due g s) s.held t (picked_in _ (due g s) (head_is 
 
 -- none that is due stays
 serve_soon : (m : Meaning) (g : Settings) (s : State) → 1 ≤ g.k → Apart s.held → (o : Option Held) → First (is_due g s) s.held o
-    → All (λ r. s.accepted ≤ deadline g r.entry) s.held → All (λ r. s.accepted < deadline g r.entry) (serve m g s o).after.held
+    → AllByRecursion (λ r. s.accepted ≤ deadline g r.entry) s.held → AllByRecursion (λ r. s.accepted < deadline g r.entry) (serve m g s o).after.held
 serve_soon m g s k a None f l = all_in _ s.held (λ r i.
     let ne = eqb-false (deadline g r.entry) s.accepted (in_all _ s.held r f i) in
     let le : s.accepted ≤ deadline g r.entry = in_all _ s.held r l i in
@@ -120,7 +120,7 @@ drained m g (suc n) s k a l =
       empty = r.empty;
     }
 
-pub drain_all : (P : Entry → Type 0) (m : Meaning) (g : Settings) (n : ℕ) (s : State) → Holds P s.held → All (Of P) (drain m g n s).lines
+pub drain_all : (P : Entry → Type 0) (m : Meaning) (g : Settings) (n : ℕ) (s : State) → Holds P s.held → AllByRecursion (Of P) (drain m g n s).lines
 drain_all P m g zero s a = tt
 drain_all P m g (suc n) s a =
     let o = serve m g s (head s.held) in
@@ -133,10 +133,10 @@ pub record Good (g : Settings) (h : History) (s : State) : Type 0 where
   pub tally : s.accepted ≡ length (accepted h)
   pub shut : s.closed ≡ is_closed h
   pub sums : (f : ℕ → ℕ) → held_total f s.held + line_total f (written h) ≡ entry_total f (accepted h)
-  pub soon : All (λ r. s.accepted < deadline g r.entry) s.held
+  pub soon : AllByRecursion (λ r. s.accepted < deadline g r.entry) s.held
   pub none : s.closed ≡ true → s.held ≡ []
   pub known : Holds (In (accepted h)) s.held
-  pub real : All (Of (In (accepted h))) (written h)
+  pub real : AllByRecursion (Of (In (accepted h))) (written h)
 
 -- positions of the accepted records
 more_later : (o : Option Record) (es : List Entry) (p : ℕ) → length (more_accepted o es) < p → (length es < p → entry_total (one p) es ≡ 0) → entry_total (one p) (more_accepted o es) ≡ 0
@@ -178,11 +178,11 @@ most h (suc p) = go (leb (suc p) (length (accepted h))) refl
 abbrev pub Placed : ℕ → Entry → Type 0
 Placed n e = (1 ≤ e.position) × (e.position ≤ n)
 
-more_placed : (o : Option Record) (es : List Entry) → All (Placed (length es)) es → All (Placed (length (more_accepted o es))) (more_accepted o es)
+more_placed : (o : Option Record) (es : List Entry) → AllByRecursion (Placed (length es)) es → AllByRecursion (Placed (length (more_accepted o es))) (more_accepted o es)
 more_placed None es a = a
 more_placed (Some r) es a = ((omega arith, omega arith), All-weaker (Placed (length es)) (Placed (suc (length es))) (λ e p. (p.0, omega (arith, p.1))) es a)
 
-pub placed : (h : History) → All (Placed (length (accepted h))) (accepted h)
+pub placed : (h : History) → AllByRecursion (Placed (length (accepted h))) (accepted h)
 placed [] = tt
 placed (x ∷ h) = more_placed (taken x.asked x.got) (accepted h) (placed h)
 
@@ -216,7 +216,7 @@ fed_good m g h s r room k d i up =
     let apart = arrived_apart m g h s r i in
     let c = serve_moves m g s' (due g s') k apart (due_in g s') in
     let all = serve_all (In es) m g s' (due g s') (due_in g s') (arrived_known m g h s r i) in
-    let near : All (λ z. s'.accepted ≤ deadline g z.entry) s'.held = All-push (λ (z : Held). s.accepted + 1 ≤ deadline g z.entry) s.held x (All-weaker (λ (z : Held). s.accepted < deadline g z.entry) (λ z. s.accepted + 1 ≤ deadline g z.entry) (λ z j. omega (arith, j)) s.held i.soon) (omega (arith, d)) in
+    let near : AllByRecursion (λ z. s'.accepted ≤ deadline g z.entry) s'.held = All-push (λ (z : Held). s.accepted + 1 ≤ deadline g z.entry) s.held x (All-weaker (λ (z : Held). s.accepted < deadline g z.entry) (λ z. s.accepted + 1 ≤ deadline g z.entry) (λ z j. omega (arith, j)) s.held i.soon) (omega (arith, d)) in
     let still = serve_soon m g s' k apart (due g s') (due_first g s') near in
     record {
       tally = c.tally ∙ ap (λ n. n + 1) i.tally ∙ omega arith;
@@ -236,7 +236,7 @@ closed_good m g h s room k i =
       tally = o.moves.tally ∙ i.tally;
       shut = o.moves.shut;
       sums = λ f. omega (arith, o.moves.sums f, i.sums f, total_append (λ (l : Line). f l.position) out.lines (written h));
-      soon = subst (λ hs. All (λ r. out.after.accepted < deadline g r.entry) hs) (sym o.empty) tt;
+      soon = subst (λ hs. AllByRecursion (λ r. out.after.accepted < deadline g r.entry) hs) (sym o.empty) tt;
       none = λ _. o.empty;
       known = subst (Holds (In (accepted h))) (sym o.empty) tt;
       real = All-append (Of (In (accepted h))) out.lines (written h) (drain_all (In (accepted h)) m g (length s.held) (shut s) i.known) i.real;

@@ -1,6 +1,6 @@
 -- What else every run keeps: bounds, orders and counts that the stream's code rests on. Assumes nothing.
 use Rattle.std.specs.Prelude.{◌≡◌, ℕ, ◌+◌, ◌<◌, ◌≤◌, Bool, true, false, cond, List, [], ◌∷◌, length}
-use Rattle.std.specs.List.{AllByRecursion as All}
+use Rattle.std.specs.List.{AllByRecursion}
 use Rattle.domain.specs.Meaning.{Meaning}
 use Rattle.release.specs.declared.Settings.{Settings}
 use Rattle.release.specs.declared.Line.{Line}
@@ -19,7 +19,7 @@ use Rattle.rules.specs.Laws.{ByRank}
 -- each position above those ahead of it
 abbrev pub ByPosition : List Held → Type 0
 ByPosition [] = Unit {0}
-ByPosition (h ∷ hs) = All (λ x. h.entry.position < x.entry.position) hs × ByPosition hs
+ByPosition (h ∷ hs) = AllByRecursion (λ x. h.entry.position < x.entry.position) hs × ByPosition hs
 
 abbrev pub is_suppressed : Manner → Bool
 is_suppressed Released = false
@@ -43,15 +43,15 @@ pub record Ordered (m : Meaning) (s : State) : Type 0 where
   pub by_position : ByPosition s.held
   pub by_rank : ByRank (kept_rank m) s.boxes.kept
   -- so that the position of the next record is a label that no cluster has
-  pub old_labels : All (λ r. r.label ≤ s.accepted) s.held
+  pub old_labels : AllByRecursion (λ r. r.label ≤ s.accepted) s.held
   -- held records have admitted values
-  pub fit : All (λ r. Fit m r.entry) s.held
+  pub fit : AllByRecursion (λ r. Fit m r.entry) s.held
 
 -- between the turns of a call
 pub record Between (m : Meaning) (g : Settings) (s : State) : Type 0 where
   pub few : length s.held ≤ g.delta + 1
   pub by_position : ByPosition s.held
-  pub fit : All (λ r. Fit m r.entry) s.held
+  pub fit : AllByRecursion (λ r. Fit m r.entry) s.held
   -- a box has a record that is held, so that the box numbers of a call stay low
   pub numbers : s.boxes.made + length s.held ≤ most_records + g.delta + 1
   -- and so does the count of suppressed records
@@ -77,14 +77,14 @@ pub record Writing (m : Meaning) (g : Settings) (s : State) (c : Call) : Type 0 
   pub few_lines : length (lines_of (step m g s c).exchange.got) ≤ length s.held + more_lines c
   pub in_room : length (lines_of (step m g s c).exchange.got) ≤ room_of c
   -- a released box has a number that none had before
-  pub new_numbers : All (λ l. l.manner ≡ Released → (s.boxes.made < l.number) × (l.number ≤ (step m g s c).after.boxes.made)) (lines_of (step m g s c).exchange.got)
+  pub new_numbers : AllByRecursion (λ l. l.manner ≡ Released → (s.boxes.made < l.number) × (l.number ≤ (step m g s c).after.boxes.made)) (lines_of (step m g s c).exchange.got)
 
 pub record Facts (m : Meaning) (g : Settings) (h : History) (s : State) : Type 0 where
   pub bounded : Bounded g s
   pub ordered : Ordered m s
   pub counted : Counted h s
   -- each kept box was released, with a crowd
-  pub kept_released : All (λ b. ReleasedBox m (crowd g s) h b.number b.ranges) s.boxes.kept
+  pub kept_released : AllByRecursion (λ b. ReleasedBox m (crowd g s) h b.number b.ranges) s.boxes.kept
   pub writing : (c : Call) → Writing m g s c
 
 abbrev pub FactsStand : Type 0

@@ -1,6 +1,6 @@
 -- What the choices from lists give: laws, so that no fold need be trusted. Assumes nothing.
 use Rattle.std.specs.Prelude.{◌≡◌, ℕ, ◌+◌, ◌<◌, ◌≤◌, min, false, ◌⊎◌, List, [], ◌∷◌, ◌++◌, length, Some, None, fold, Option, ◌≢◌}
-use Rattle.std.specs.List.{AllByRecursion as All}
+use Rattle.std.specs.List.{AllByRecursion}
 use Rattle.domain.specs.Meaning.{Meaning}
 use Rattle.release.specs.declared.Settings.{Settings}
 use Rattle.rules.specs.declared.Entry.{Entry}
@@ -16,7 +16,7 @@ use Rattle.rules.specs.Turn.{merged, grown}
 module _ {X : Type 0} where
   -- none of the others has a lower key
   abbrev pub HasLeast : (X → ℕ) → List X → X → Type 0
-  HasLeast key xs x = In xs x × All (λ y. key x ≤ key y) xs
+  HasLeast key xs x = In xs x × AllByRecursion (λ y. key x ≤ key y) xs
 
   -- `minimal` lists those that have the least key, and no others
   pub record MinimalLaw (key : X → ℕ) (xs : List X) : Type 0 where
@@ -28,8 +28,8 @@ module _ {X : Type 0} where
     pub ahead : List X
     pub behind : List X
     pub stands : xs ≡ ahead ++ x ∷ behind
-    pub above : All (λ y. key x < key y) ahead
-    pub no_lower : All (λ y. key x ≤ key y) behind
+    pub above : AllByRecursion (λ y. key x < key y) ahead
+    pub no_lower : AllByRecursion (λ y. key x ≤ key y) behind
 
   -- `least` gives it, and none only from an empty list
   abbrev pub LeastLaw : (X → ℕ) → List X → Option X → Type 0
@@ -38,7 +38,7 @@ module _ {X : Type 0} where
 
   -- none ranks lower than one ahead of it
   abbrev pub NoneLower : (X → Rank) → X → List X → Type 0
-  NoneLower rank x ys = All (λ y. lower (rank y) (rank x) ≡ false) ys
+  NoneLower rank x ys = AllByRecursion (λ y. lower (rank y) (rank x) ≡ false) ys
 
   abbrev pub ByRank : (X → Rank) → List X → Type 0
   ByRank rank [] = Unit {0}
@@ -48,7 +48,7 @@ module _ {X : Type 0} where
   pub record LowestRankedLaw (rank : X → Rank) (n : ℕ) (xs : List X) : Type 0 where
     pub by_rank : ByRank rank (lowest_ranked rank n xs)
     pub as_many : length (lowest_ranked rank n xs) ≡ min n (length xs)
-    pub no_higher : All (λ x. NoneLower rank x (beyond rank n xs)) (lowest_ranked rank n xs)
+    pub no_higher : AllByRecursion (λ x. NoneLower rank x (beyond rank n xs)) (lowest_ranked rank n xs)
     -- nothing is lost, made up or doubled, by whatever weights one counts
     pub of_given : (f : X → ℕ) → total f (lowest_ranked rank n xs) + total f (beyond rank n xs) ≡ total f xs
 
@@ -66,7 +66,7 @@ pub record DifferentLaw (xs : List ℕ) : Type 0 where
 -- each below those behind it
 abbrev pub Ascending : List ℕ → Type 0
 Ascending [] = Unit {0}
-Ascending (x ∷ xs) = All (λ y. x < y) xs × Ascending xs
+Ascending (x ∷ xs) = AllByRecursion (λ y. x < y) xs × Ascending xs
 
 -- `clusters` lists the labels of what is held, each once and the oldest first
 pub record ClustersLaw (hs : List Held) : Type 0 where
@@ -100,7 +100,7 @@ pub record Settles (m : Meaning) (es : List Entry) (ps : List (List ℕ)) (w : �
 -- the parts of a cluster: each record is in one of them, and each names k owners if the cluster does
 pub record PartsLaw (m : Meaning) (k : ℕ) (es : List Entry) : Type 0 where
   pub each_once : (f : Entry → ℕ) → total (λ p. total f p) (parts m k es) ≡ total f es
-  pub crowds : k ≤ size es → All (λ p. k ≤ size p) (parts m k es)
+  pub crowds : k ≤ size es → AllByRecursion (λ p. k ≤ size p) (parts m k es)
 
 -- the rounds that bound a repetition are enough for it to end
 pub record Rounds : Type 0 where

@@ -1,6 +1,6 @@
 -- The promise: what every run keeps, in words of records, lines, boxes, owners and turns. Assumes nothing.
 use Rattle.std.specs.Prelude.{◌≡◌, ℕ, ◌+◌, ◌*◌, ◌<◌, ◌≤◌, Bool, true, false, cond, ◌||◌, ◌⊎◌, List, [], ◌∷◌, ◌++◌, length, Some, None, Option, ◌==◌, ◌≢◌}
-use Rattle.std.specs.List.{AllByRecursion as All}
+use Rattle.std.specs.List.{AllByRecursion}
 use Rattle.domain.specs.Meaning.{Meaning}
 use Rattle.release.specs.declared.Settings.{Settings}
 use Rattle.release.specs.declared.Record.{Record}
@@ -72,15 +72,15 @@ pub record Written (h : History) (l : Line) : Type 0 where
 
 pub record Whole (g : Settings) (h : History) (s : State) : Type 0 where
   -- each accepted record is held once or written by one line, and never both
-  pub once : All (λ e. held_times e.position s.held + line_times e.position (written h) ≡ 1) (accepted h)
+  pub once : AllByRecursion (λ e. held_times e.position s.held + line_times e.position (written h) ≡ 1) (accepted h)
   -- none is held once delta later records were accepted
-  pub soon : All (λ r. length (accepted h) < deadline g r.entry) s.held
+  pub soon : AllByRecursion (λ r. length (accepted h) < deadline g r.entry) s.held
   -- nor when the stream is closed
   pub last : is_closed h ≡ true → s.held ≡ []
   -- what is held was accepted
-  pub known : All (λ r. In (accepted h) r.entry) s.held
+  pub known : AllByRecursion (λ r. In (accepted h) r.entry) s.held
   -- each line has the position and the reading of an accepted record
-  pub real : All (Written h) (written h)
+  pub real : AllByRecursion (Written h) (written h)
 
 -- ---- each box covers what is written under it, and names a crowd
 
@@ -94,7 +94,7 @@ pub record ReleaseLine (h : History) (number : ℕ) (ranges : Box) (q : Line) : 
 -- a released box: its release lines write these records and no others, and they name at least k owners
 pub record ReleasedBox (m : Meaning) (k : ℕ) (h : History) (number : ℕ) (ranges : Box) : Type 0 where
   pub named : List Entry
-  pub by_lines : All (λ e. In (accepted h) e × ((q : Line) × ReleaseLine h number ranges q × Writes q e)) named
+  pub by_lines : AllByRecursion (λ e. In (accepted h) e × ((q : Line) × ReleaseLine h number ranges q × Writes q e)) named
   pub only : (q : Line) → ReleaseLine h number ranges q → ((e : Entry) × In named e × Writes q e)
   pub many : k ≤ size named
   -- it is the least box around them
@@ -129,18 +129,18 @@ pub record Due (m : Meaning) (g : Settings) (x : Exchange) (h : History) (l : Li
   -- in the state just before
   pub held : In turn.before.held turn.who
   pub small : size (members turn.who.label turn.before.held) < crowd g turn.before
-  pub bare : All (λ b. covers_entry m b.ranges turn.who.entry ≡ false) turn.before.boxes.kept
+  pub bare : AllByRecursion (λ b. covers_entry m b.ranges turn.who.entry ≡ false) turn.before.boxes.kept
   pub why : NoCrowd g turn.before turn.who
 
 abbrev pub Fair : Meaning → Settings → History → Type 0
 Fair m g [] = Unit {0}
-Fair m g (x ∷ h) = All (λ l. l.manner ≡ Suppressed → Due m g x h l) (lines_of x.got) × Fair m g h
+Fair m g (x ∷ h) = AllByRecursion (λ l. l.manner ≡ Suppressed → Due m g x h l) (lines_of x.got) × Fair m g h
 
 -- ---- the promise
 
 pub record Promise (m : Meaning) (g : Settings) (h : History) (s : State) : Type 0 where
   pub whole : Whole g h s
-  pub boxed : All (λ l. (l.manner ≢ Suppressed) → Boxed m (crowd g s) h l) (written h)
+  pub boxed : AllByRecursion (λ l. (l.manner ≢ Suppressed) → Boxed m (crowd g s) h l) (written h)
   pub fair : Fair m g h
 
 -- for every domain, all settings that opening takes, and every run

@@ -1,4 +1,6 @@
 // The rules of the release filter: the types that they speak of, and the theorems that stand on contracts here.
+#![tactic(auto)]
+
 ghost use Rattle.rules.specs.Around.{BoxesStand};
 ghost use Rattle.rules.specs.Examples.{Examples};
 ghost use Rattle.rules.specs.Facts.{FactsStand};

@@ -11,7 +11,7 @@ use Rattle.release.specs.declared.Manner.TheVariants.{Released, Reused, Suppress
 use Rattle.std.specs.Str.Parse.{AllDigits, digits_value, starts_with_minus, without_leading_plus, without_leading_sign, signed_digits_value}
 use Rattle.std.specs.Int.{IsInRange}
 use Rattle.std.specs.Fmt.{signed_decimal}
-use Rattle.std.specs.List.{AllByRecursion as All}
+use Rattle.std.specs.List.{AllByRecursion}
 use Rattle.std.proofs.lemmas.Fmt.{decimal_is_IsNumeral}
 use Rattle.std.proofs.lemmas.Str.Parse.{digit_from_value, digit_at}
 use Rattle.std.proofs.lemmas.Bool.{cond-true, cond-false, cond_both, eqb-true, eq-eqb, ne_eqb}
@@ -60,7 +60,7 @@ attribute_shown Released a s = range_shown a s.0 s.1
 attribute_shown Reused a s = range_shown a s.0 s.1
 attribute_shown Suppressed a s = refl
 
-all_shown : (m : Manner) (xs : List Range) → All Small xs → map shown_range (map (attribute_field m) xs) ≡ map (told_range m) xs
+all_shown : (m : Manner) (xs : List Range) → AllByRecursion Small xs → map shown_range (map (attribute_field m) xs) ≡ map (told_range m) xs
 all_shown m [] s = refl
 all_shown m (x ∷ xs) s = ap (λ o. o ∷ map shown_range (map (attribute_field m) xs)) (attribute_shown m x s.0) ∙ ap (λ l. told_range m x ∷ l) (all_shown m xs s.1)
 
@@ -77,5 +77,5 @@ signed_reads (negsuc n) h = ap (λ v. neg_ℤ (pos v)) (decimal_is_IsNumeral (su
 pub mag_small : (z : ℤ) → SFits w32 z → mag z < 2 ^ 63
 mag_small z f = omega (arith, ints)
 
-pub row_shown : (width : ℕ) (line : Line) → All Small (take width line.ranges) → mag line.reading < 2 ^ 63 → Shown width line
+pub row_shown : (width : ℕ) (line : Line) → AllByRecursion Small (take width line.ranges) → mag line.reading < 2 ^ 63 → Shown width line
 row_shown width line s m = record { ranges = all_shown line.manner (take width line.ranges) s; reading = signed_reads line.reading m }

@@ -3,7 +3,7 @@ use Rattle.std.specs.Prelude.{◌≡◌, ℕ, List, [], ◌∷◌, ◌++◌, map
 use Rattle.rfc4180.specs.Grammar.{FieldText, Lawful, AllLawful, Derives}
 use Rattle.rfc4180.specs.Reading.{cut, read_line}
 use Rattle.release.specs.declared.Line.{Line}
-use Rattle.std.specs.List.{flat_map, AllByRecursion as All}
+use Rattle.std.specs.List.{flat_map, AllByRecursion}
 use Rattle.sheet.specs.Rows.{line_bytes, attribute_fields, reading_field, row_bytes}
 use Rattle.sheet.specs.Files.{ReadBack}
 use Rattle.sheet.specs.Shown.{Shown}
@@ -18,7 +18,7 @@ pub record Wrote (width rows : ℕ) (front : List FieldText) (last : FieldText) 
   pub lawful : AllLawful front × Lawful last
   pub columns : length front ≡ width
   pub count : length lines ≡ rows
-  pub shown : All (Shown width) lines
+  pub shown : AllByRecursion (Shown width) lines
   pub bytes : text ≡ line_bytes front last ++ flat_map (row_bytes width) lines
 
 -- a header that was taken: its n bytes begin a sheet, and they are one line, whatever stands behind them, of the fields

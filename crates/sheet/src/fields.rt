@@ -5,7 +5,7 @@ ghost use Rattle.sheet.specs.Areas.{Holds};
 ghost use Rattle.sheet.specs.Limits.{max_width};
 ghost use Rattle.sheet.specs.Rows.{range_field, attribute_field};
 ghost use Rattle.sheet.specs.Shown.{Small};
-ghost use Rattle.std.specs.List.{AllByRecursion as All};
+ghost use Rattle.std.specs.List.{AllByRecursion};
 
 use crate::digits::{digit_count, put_byte, put_number};
 use domain::Range;
@@ -67,7 +67,7 @@ pub(crate) fn attributes_size(manner: Manner, ranges: &[Range]) -> usize
     requires { length ranges.now ≤ max_width }
     ensures value { result ≡ length (with_commas (map (attribute_field manner) ranges.now)) }
     ensures bound { result ≤ 26 * length ranges.now }
-    ensures small { All Small ranges.now }
+    ensures small { AllByRecursion Small ranges.now }
 {
     let mut size = 0;
     for range in ranges {

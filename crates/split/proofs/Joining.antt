@@ -1,6 +1,6 @@
 -- A leftover owner joins a part: marks and boxes beside the rules' parts.
 use Rattle.std.proofs.Common.{◌≡◌, ℕ, zero, suc, ◌+◌, ◌-◌, ◌<◌, ◌≤◌, Bool, true, false, cond, ◌&&◌, ◌||◌, eqb, List, [], ◌∷◌, ◌++◌, map, length, get_or, set, Some, None, filter, Option, sym, refl, ap, ◌∙◌, subst, inl, inr, arith}
-use Rattle.std.specs.List.{AllByRecursion as All}
+use Rattle.std.specs.List.{AllByRecursion}
 use Rattle.std.specs.Option.{option_map}
 use Rattle.std.proofs.ByRecursion.{All-get_or, All-from_get_or, All-set}
 use Rattle.std.proofs.lemmas.List.{get_or-map, get_or-set_same, map-set, length-map, length_push}
@@ -164,7 +164,7 @@ module _ (m : Meaning) (es : List Entry) (w : ℕ) (e : Entry) (stands : stand_i
   grows p l =
       ap (λ b. box_loss m b - cost m (part es p)) (sym (boxes_stand.wider m (part es p) e l)) ∙ ap (λ s. cost m (part es p ++ s) - cost m (part es p)) (sym stands)
 
-  settles_at : (ps : List (List ℕ)) (boxes : List Part) (b : ℕ) → boxes ≡ map (λ p. part_of m (part es p)) ps → All (λ p. 1 ≤ length (part es p)) ps → FirstLeastGrown m e boxes b → (b < length ps) × (settle m es ps w ≡ join_at b w ps)
+  settles_at : (ps : List (List ℕ)) (boxes : List Part) (b : ℕ) → boxes ≡ map (λ p. part_of m (part es p)) ps → AllByRecursion (λ p. 1 ≤ length (part es p)) ps → FirstLeastGrown m e boxes b → (b < length ps) × (settle m es ps w ≡ join_at b w ps)
   settles_at ps boxes b told all first = (
     short,
     joins_at (λ p. eqb (growth m es w p) (lowest (growth m es w) ps)) w ps b short
@@ -209,7 +209,7 @@ some_record es (x ∷ p) l h =
     is_true true l = refl
     is_true false l = absurd (omega (arith, l))
 
-all_some : (es : List Entry) (ps : List (List ℕ)) → All (λ p. 1 ≤ length p) ps → ((o : ℕ) → grouped o ps ≤ times o (owners es)) → All (λ p. 1 ≤ length (part es p)) ps
+all_some : (es : List Entry) (ps : List (List ℕ)) → AllByRecursion (λ p. 1 ≤ length p) ps → ((o : ℕ) → grouped o ps ≤ times o (owners es)) → AllByRecursion (λ p. 1 ≤ length (part es p)) ps
 all_some es [] a h = tt
 all_some es (p ∷ ps) a h = (some_record es p a.0 (λ o. omega (arith, h o)), all_some es ps a.1 (λ o. omega (arith, h o)))
 

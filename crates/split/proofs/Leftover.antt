@@ -1,6 +1,6 @@
 -- The leftover owners, one after another.
 use Rattle.std.proofs.Common.{◌≡◌, ℕ, ◌+◌, ◌<◌, Bool, true, false, cond, List, [], ◌∷◌, map, length, get_or, drop, set, fold, filter, Option, sym, ap, ◌∙◌, subst}
-use Rattle.std.specs.List.{AllByRecursion as All}
+use Rattle.std.specs.List.{AllByRecursion}
 use Rattle.std.proofs.ByRecursion.{All-get_or, All-map}
 use Rattle.std.proofs.lemmas.List.{at_drop_more}
 use Rattle.domain.specs.Meaning.{Meaning}
@@ -40,7 +40,7 @@ module _ (fs : List Face) (i : ℕ) (d : Face) (l : i < length fs) where
 
   pub face_stands : (es : List Entry) (ps : List (List ℕ)) → fs ≡ map (face ps) (earliest es) → stand_in es (owner_of (get_or fs i d)) ≡ (get_or fs i d).stand_in ∷ []
   face_stands es ps e =
-      (All-get_or (λ f. Stands es f.stand_in) fs i d l (subst (All (λ f. Stands es f.stand_in)) (sym e) (All-map (λ f. Stands es f.stand_in) (face ps) (earliest es) (stands es)))).0
+      (All-get_or (λ f. Stands es f.stand_in) fs i d l (subst (AllByRecursion (λ f. Stands es f.stand_in)) (sym e) (All-map (λ f. Stands es f.stand_in) (face ps) (earliest es) (stands es)))).0
 
 pub settled_passes : (m : Meaning) (c : ℕ) (hs : List Held) (qs : List (List ℕ)) (left ws us : List ℕ) (marks : List (Option ℕ)) (boxes : List Part) → ws ≡ us → Settled m c hs qs left ws marks boxes → Settled m c hs qs left us marks boxes
 settled_passes m c hs qs left ws us marks boxes e so = subst (λ z. Settled m c hs qs left z marks boxes) e so

@@ -1,6 +1,6 @@
 -- Each owner's earliest record stands for him.
 use Rattle.std.proofs.Common.{◌≡◌, ℕ, ◌+◌, ◌<◌, Bool, true, false, cond, not, ◌||◌, eqb, List, [], ◌∷◌, ◌++◌, map, length, get_or, take, filter, sym, refl, ap, ◌∙◌}
-use Rattle.std.specs.List.{AllByRecursion as All}
+use Rattle.std.specs.List.{AllByRecursion}
 use Rattle.std.proofs.lemmas.List.{map-append, append-nil}
 use Rattle.std.proofs.lemmas.List.Elements.{filter-append, filter_more}
 use Rattle.std.proofs.lemmas.Bool.{eqb-true, eq-eqb, not-true}
@@ -23,11 +23,11 @@ kept_map f q (x ∷ xs) = go (q (f x)) (kept_map f q xs)
     go true ih = ap (λ l. f x ∷ l) ih
     go false ih = ih
 
-pub kept_all : {X : Type 0} (P Q : X → Type 0) (q : X → Bool) → ((x : X) → q x ≡ true → P x → Q x) → (xs : List X) → All P xs → All Q (filter q xs)
+pub kept_all : {X : Type 0} (P Q : X → Type 0) (q : X → Bool) → ((x : X) → q x ≡ true → P x → Q x) → (xs : List X) → AllByRecursion P xs → AllByRecursion Q (filter q xs)
 kept_all P Q q h [] a = tt
 kept_all P Q q h (x ∷ xs) a = go (q x) refl (kept_all P Q q h xs a.1)
   where
-    go : (b : Bool) → q x ≡ b → All Q (filter q xs) → All Q (cond b (x ∷ filter q xs) (filter q xs))
+    go : (b : Bool) → q x ≡ b → AllByRecursion Q (filter q xs) → AllByRecursion Q (cond b (x ∷ filter q xs) (filter q xs))
     go true e ih = (h x e a.0, ih)
     go false e ih = ih
 
@@ -100,7 +100,7 @@ earliest_push (x ∷ es) e =
 abbrev pub Stands : List Entry → Entry → Type 0
 Stands es f = (stand_in es (owner f) ≡ f ∷ []) × (since (owner f) es ≡ f.position)
 
-pub stands : (es : List Entry) → All (Stands es) (earliest es)
+pub stands : (es : List Entry) → AllByRecursion (Stands es) (earliest es)
 stands [] = tt
 stands (e ∷ es) = (own (eqb (owner e) (owner e)) (eq-eqb (owner e) (owner e) refl), kept_all (Stands es) (Stands (e ∷ es)) (λ x. not (eqb (owner x) (owner e))) other (earliest es) (stands es))
   where

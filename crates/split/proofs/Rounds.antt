@@ -1,21 +1,20 @@
 -- The next part, round by round: what the owners' parts are beside those of the rules.
 use Rattle.std.proofs.Common.{◌≡◌, ℕ, zero, suc, ◌+◌, ◌-◌, ◌<◌, ◌≤◌, Bool, true, false, cond, not, ◌&&◌, ◌||◌, leb, List, [], ◌∷◌, ◌++◌, map, length, take, is_some, Some, None, filter, Option, sym, refl, ap, ◌∙◌, subst, arith}
-use Rattle.std.specs.List.{AllByRecursion as All}
+use Rattle.std.specs.List.{AllByRecursion}
 use Rattle.std.specs.Option.{option_map}
 use Rattle.std.proofs.ByRecursion.{all_kept_by}
 use Rattle.std.proofs.lemmas.List.{append_assoc, append-nil, length-map, length_push}
 use Rattle.std.proofs.lemmas.List.Sums.{length-filter, count_by-le-length}
 use Rattle.std.proofs.lemmas.Bool.{eq-eqb, le-leb, lt-leb}
 use Rattle.domain.specs.Meaning.{Meaning}
-use Rattle.keeper.specs.declared.Rank.{Rank}
-use Rattle.keeper.specs.Ranks.{lower}
-use Rattle.keeper.specs.Leasts.{among, in_order, leasts}
+use Rattle.keeper.specs.Leasts.{leasts}
 use Rattle.keeper.proofs.Leasts.{leasts_map}
 use Rattle.rules.specs.declared.Entry.{Entry}
-use Rattle.rules.specs.Choosing.{head, chosen, listed}
+use Rattle.rules.specs.Choosing.{head, chosen, listed, Rank, lower, among, in_order, lowest_ranked}
 use Rattle.rules.specs.Clusters.{owner, owners, size, cost}
 use Rattle.rules.specs.Split.{outside, nearness, around, next_part, Cut, cut, cut_on}
 use Rattle.rules.proofs.Totals.{all_in_order}
+use Rattle.rules.proofs.KeeperRanks.{keeper_rank, leasts_of_keeper}
 use Rattle.split.specs.declared.faces.Face.{Face}
 use Rattle.split.specs.declared.near.Neighbour.{Neighbour}
 use Rattle.split.specs.Faces.{earliest, face, owner_of, place_in, lacks_part}
@@ -24,15 +23,15 @@ use Rattle.split.proofs.Owners.{kept_map, earliest_owners, Stands, stands}
 
 -- ---- ranks that agree give the same order
 
-kept_agree : {X : Type 0} (p q : X → Bool) (xs : List X) → All (λ x. p x ≡ q x) xs → filter p xs ≡ filter q xs
+kept_agree : {X : Type 0} (p q : X → Bool) (xs : List X) → AllByRecursion (λ x. p x ≡ q x) xs → filter p xs ≡ filter q xs
 kept_agree p q [] a = refl
 kept_agree p q (x ∷ xs) a = ap (λ b. cond b (x ∷ filter p xs) (filter p xs)) a.0 ∙ ap (λ l. cond (q x) (x ∷ l) l) (kept_agree p q xs a.1)
 
-all_under : {X : Type 0} (P Q : X → Type 0) → ((x : X) → P x → Q x) → (xs : List X) → All P xs → All Q xs
+all_under : {X : Type 0} (P Q : X → Type 0) → ((x : X) → P x → Q x) → (xs : List X) → AllByRecursion P xs → AllByRecursion Q xs
 all_under P Q h [] a = tt
 all_under P Q h (x ∷ xs) a = (h x a.0, all_under P Q h xs a.1)
 
-order_agrees : {X : Type 0} (r s : X → Rank) (xs : List X) → All (λ x. r x ≡ s x) xs → in_order r xs ≡ in_order s xs
+order_agrees : {X : Type 0} (r s : X → Rank) (xs : List X) → AllByRecursion (λ x. r x ≡ s x) xs → in_order r xs ≡ in_order s xs
 order_agrees r s [] a = refl
 order_agrees {X = X} r s (x ∷ xs) a =
     ap (among r x) (order_agrees r s xs a.1)
@@ -42,24 +41,38 @@ order_agrees {X = X} r s (x ∷ xs) a =
     zs : List X
     zs = in_order s xs
 
-    low : All (λ y. lower (r y) (r x) ≡ lower (s y) (s x)) (in_order s xs)
+    low : AllByRecursion (λ y. lower (r y) (r x) ≡ lower (s y) (s x)) (in_order s xs)
     low = all_under (λ y. r y ≡ s y) (λ y. lower (r y) (r x) ≡ lower (s y) (s x)) (λ y e. ap (λ z. lower z (r x)) e ∙ ap (lower (s y)) a.0) (in_order s xs) (all_in_order (λ y. r y ≡ s y) s xs a.1)
 
 -- ---- the nearest, by stand-ins and by owners
 
-nearness_of : (m : Meaning) (es : List Entry) (s e : Entry) → Stands es s → Stands es e → rank_of (neighbour m s e) ≡ nearness m es (owner s) (owner e)
+-- the rank of a neighbour, as the rules have ranks
+seen : Meaning → Entry → Entry → Rank
+seen m s e = record { first = cost m (s ∷ e ∷ []); second = e.position }
+
+nearness_of : (m : Meaning) (es : List Entry) (s e : Entry) → Stands es s → Stands es e → seen m s e ≡ nearness m es (owner s) (owner e)
+unfolding seen
 nearness_of m es s e p q = sym (λ i. record { first = cost m (p.0 i ++ q.0 i); second = q.1 i })
 
 map_map : {X Y Z : Type 0} (f : Y → Z) (g : X → Y) (xs : List X) → map f (map g xs) ≡ map (λ x. f (g x)) xs
 map_map f g [] = refl
 map_map f g (x ∷ xs) = ap (λ l. f (g x) ∷ l) (map_map f g xs)
 
-pub nearest_names : (m : Meaning) (es : List Entry) (s : Entry) (n : ℕ) (os : List Entry) → Stands es s → All (Stands es) os → names (leasts rank_of n (map (neighbour m s) os)) ≡ leasts (nearness m es (owner s)) n (map owner os)
+-- ranked before or after a function, the n least are the same
+least_map : {X Y : Type 0} (rank : Y → Rank) (f : X → Y) (n : ℕ) (xs : List X) → map f (lowest_ranked (λ x. rank (f x)) n xs) ≡ lowest_ranked rank n (map f xs)
+least_map rank f n xs =
+    ap (map f) (sym (leasts_of_keeper (λ x. rank (f x)) n xs))
+    ∙ leasts_map (λ y. keeper_rank (rank y)) f n xs
+    ∙ leasts_of_keeper rank n (map f xs)
+
+pub nearest_names : (m : Meaning) (es : List Entry) (s : Entry) (n : ℕ) (os : List Entry) → Stands es s → AllByRecursion (Stands es) os → names (leasts rank_of n (map (neighbour m s) os)) ≡ lowest_ranked (nearness m es (owner s)) n (map owner os)
+unfolding seen
 nearest_names m es s n os p a =
     ap names (sym (leasts_map rank_of (neighbour m s) n os))
     ∙ map_map (λ x. x.owner) (neighbour m s) (leasts (λ e. rank_of (neighbour m s e)) n os)
-    ∙ ap (λ l. map owner (take n l)) (order_agrees (λ e. rank_of (neighbour m s e)) (λ e. nearness m es (owner s) (owner e)) os (all_under (Stands es) _ (λ e q. nearness_of m es s e p q) os a))
-    ∙ leasts_map (nearness m es (owner s)) owner n os
+    ∙ ap (map owner) (leasts_of_keeper (seen m s) n os)
+    ∙ ap (λ l. map owner (take n l)) (order_agrees (seen m s) (λ e. nearness m es (owner s) (owner e)) os (all_under (Stands es) _ (λ e q. nearness_of m es s e p q) os a))
+    ∙ least_map (nearness m es (owner s)) owner n os
 
 -- ---- one part more
 
@@ -130,7 +143,7 @@ joined_fewer_by_one ws j (f ∷ fs) s h = go f.part h (joined_fewer_by_one ws j 
 
 -- ---- a round
 
-head_all : {X : Type 0} (P : X → Type 0) (xs : List X) (x : X) → All P xs → head xs ≡ Some x → P x
+head_all : {X : Type 0} (P : X → Type 0) (xs : List X) (x : X) → AllByRecursion P xs → head xs ≡ Some x → P x
 head_all {X = X} P [] x a e = absurd (never e)
   where
     never : ◌≡◌ {A = Option X} None (Some x) → ⊥
@@ -152,9 +165,9 @@ next_around m k es ws p w h = go (leb k (length ws)) (chosen ws) h
     go true None h e = absurd (let z : ◌≡◌ {A = ℕ} 0 1 = cc in omega arith)
     go false o h e = absurd (let z : ◌≡◌ {A = ℕ} 0 1 = cc in omega arith)
 
-stands_remaining : (es : List Entry) (ps : List (List ℕ)) (fs : List Face) → fs ≡ map (face ps) (earliest es) → All (Stands es) (remaining fs)
+stands_remaining : (es : List Entry) (ps : List (List ℕ)) (fs : List Face) → fs ≡ map (face ps) (earliest es) → AllByRecursion (Stands es) (remaining fs)
 stands_remaining es ps fs e =
-    subst (All (Stands es)) (sym (ap remaining e ∙ remaining_faces ps (earliest es))) (all_kept_by (λ x. not (is_some (place_in ps (owner x)))) (Stands es) (earliest es) (stands es))
+    subst (AllByRecursion (Stands es)) (sym (ap remaining e ∙ remaining_faces ps (earliest es))) (all_kept_by (λ x. not (is_some (place_in ps (owner x)))) (Stands es) (earliest es) (stands es))
 
 -- the first that remains and those nearest to him are the next part
 pub gathered : (m : Meaning) (n j : ℕ) (es : List Entry) (ps : List (List ℕ)) (p : List ℕ) (s : Entry) (fs : List Face) (items : List Neighbour) → fs ≡ map (face ps) (earliest es) → length ps ≡ j → head (remaining fs) ≡ Some s
@@ -164,12 +177,12 @@ gathered m n j es ps p s fs items e l h its next =
     let ws = map owner rem in
     let all = stands_remaining es ps fs e in
     let own = head_all (Stands es) rem s all h in
-    let near : names items ≡ leasts (nearness m es (owner s)) n (outside (owner s ∷ []) ws) =
+    let near : names items ≡ lowest_ranked (nearness m es (owner s)) n (outside (owner s ∷ []) ws) =
     ap names its ∙ nearest_names m es s n (others_than s rem) own (all_kept_by (λ x. not (listed (owner x) (owner s ∷ []))) (Stands es) rem all)
-    ∙ ap (leasts (nearness m es (owner s)) n) (kept_map owner (λ w. not (listed w (owner s ∷ []))) rem) in
+    ∙ ap (lowest_ranked (nearness m es (owner s)) n) (kept_map owner (λ w. not (listed w (owner s ∷ []))) rem) in
     let count : n ≡ (n + 1) - 1 = omega arith in
     let whole : owner s ∷ names items ≡ p =
-    ap (λ l. owner s ∷ l) (near ∙ ap (λ i. leasts (nearness m es (owner s)) i (outside (owner s ∷ []) ws)) count) ∙ sym (next_around m (n + 1) es ws p (owner s) (head_map owner rem s h) next) in
+    ap (λ l. owner s ∷ l) (near ∙ ap (λ i. lowest_ranked (nearness m es (owner s)) i (outside (owner s ∷ []) ws)) count) ∙ sym (next_around m (n + 1) es ws p (owner s) (head_map owner rem s h) next) in
     ap (λ us. map (joined us j) fs) whole ∙ ap (map (joined p j)) e ∙ joined_faces ps p j (earliest es) l
 
 -- ---- the rounds

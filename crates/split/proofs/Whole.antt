@@ -1,6 +1,6 @@
 -- The parts of a cluster as a whole.
 use Rattle.std.proofs.Common.{◌≡◌, ℕ, suc, ◌+◌, ◌-◌, ◌*◌, ◌<◌, ◌≤◌, Bool, true, false, cond, not, ◌||◌, eqb, List, [], ◌∷◌, map, length, get_or, take, is_some, Some, None, fold, filter, Option, sym, refl, ap, ◌∙◌, subst, ⊎_elim, arith}
-use Rattle.std.specs.List.{range_with_len, AllByRecursion as All}
+use Rattle.std.specs.List.{range_with_len, AllByRecursion}
 use Rattle.std.specs.Option.{option_map}
 use Rattle.std.proofs.lemmas.List.FromFn.{length-map-range_with_len, get_or-map-range_with_len}
 use Rattle.std.proofs.ByRecursion.{All-weaker}
@@ -71,7 +71,7 @@ marks_among c ps hs = go hs (all_in _ hs known)
     one h true e k = place_among_face ps (earliest (members c hs)) (owner h.entry) (k e)
     one h false e k = refl
 
-    go : (xs : List Held) → All Known xs → map (mark_among c (map (face ps) (earliest (members c hs)))) xs ≡ map (mark_in c ps) xs
+    go : (xs : List Held) → AllByRecursion Known xs → map (mark_among c (map (face ps) (earliest (members c hs)))) xs ≡ map (mark_in c ps) xs
     go [] a = refl
     go (x ∷ xs) a = ap (λ y. y ∷ map (mark_among c (map (face ps) (earliest (members c hs)))) xs) (one x (eqb x.label c) refl a.0) ∙ ap (λ l. mark_in c ps x ∷ l) (go xs a.1)
 
@@ -89,7 +89,7 @@ place_below (p ∷ ps) w = go (listed w p) (place_below ps w)
     go true ih = omega arith
     go false ih = below_next (length ps) (place_in ps w) ih
 
-marks_below : (c : ℕ) (ps : List (List ℕ)) (hs : List Held) → All (Below (length ps)) (map (mark_in c ps) hs)
+marks_below : (c : ℕ) (ps : List (List ℕ)) (hs : List Held) → AllByRecursion (Below (length ps)) (map (mark_in c ps) hs)
 marks_below c ps [] = tt
 marks_below c ps (h ∷ hs) = (go (eqb h.label c) (place_below ps (owner h.entry)), marks_below c ps hs)
   where
@@ -111,7 +111,7 @@ place_some o (p ∷ ps) l = go (listed o p) refl (place_some o ps)
     go false e ih = next (place_in ps o) (ih (⊎_elim (λ some. true_false (times_listed o p some) e) (λ none. omega (arith, l, none)) (cases_lt 0 (times o p))))
 
 -- those without a mark are those of other clusters, where each record of the cluster has one
-unmarked_others : (c : ℕ) (mark : Held → Option ℕ) (hs : List Held) → All (λ h. is_some (mark h) ≡ eqb h.label c) hs → unmarked (map mark hs) hs ≡ others c hs
+unmarked_others : (c : ℕ) (mark : Held → Option ℕ) (hs : List Held) → AllByRecursion (λ h. is_some (mark h) ≡ eqb h.label c) hs → unmarked (map mark hs) hs ≡ others c hs
 unmarked_others c mark [] a = refl
 unmarked_others c mark (h ∷ hs) a =
     ap (λ b. cond b (unmarked (map mark hs) hs) (h ∷ unmarked (map mark hs) hs)) a.0 ∙ ap (λ l. cond (eqb h.label c) l (h ∷ l)) (unmarked_others c mark hs a.1) ∙ turned (eqb h.label c)
@@ -120,7 +120,7 @@ unmarked_others c mark (h ∷ hs) a =
     turned true = refl
     turned false = refl
 
-placed_all : (c : ℕ) (ps : List (List ℕ)) (hs : List Held) → ((o : ℕ) → listed o (map owner (members c hs)) ≡ true → 1 ≤ grouped o ps) → All (λ h. is_some (mark_in c ps h) ≡ eqb h.label c) hs
+placed_all : (c : ℕ) (ps : List (List ℕ)) (hs : List Held) → ((o : ℕ) → listed o (map owner (members c hs)) ≡ true → 1 ≤ grouped o ps) → AllByRecursion (λ h. is_some (mark_in c ps h) ≡ eqb h.label c) hs
 placed_all c ps hs some = all_in _ hs (λ h i. go h i (eqb h.label c) refl)
   where
     go : (h : Held) → In hs h → (b : Bool) → eqb h.label c ≡ b → is_some (cond b (place_in ps (owner h.entry)) None) ≡ b
@@ -166,7 +166,7 @@ module _ (m : Meaning) (k c : ℕ) (hs : List Held) (pos : 1 ≤ k) where
       let these : parts m k (members c hs) ≡ map (part (members c hs)) ps = ap (λ b. cond b (members c hs ∷ []) (map (part (members c hs)) ps)) (le-ltb (size (members c hs)) (2 * k) l) in
       record {
         long = ap length so.marked ∙ length-map hs (mark_in c ps);
-        within = subst (λ n. All (Below n) marks) (sym many) (subst (All (Below (length ps))) (sym so.marked) (marks_below c ps hs));
+        within = subst (λ n. AllByRecursion (Below n) marks) (sym many) (subst (AllByRecursion (Below (length ps))) (sym so.marked) (marks_below c ps hs));
         others = ap (λ x. unmarked x hs) so.marked ∙ unmarked_others c (mark_in c ps) hs (placed_all c ps hs (λ o e. omega (arith, split_times m k (members c hs) pos (omega (arith, l)) o, mark e)));
         records = records_told ps marks (length boxes) once so.marked many ∙ sym these;
         told = so.told ∙ map_twice (part_of m) (part (members c hs)) ps ∙ ap (map (part_of m)) (sym these);
@@ -200,7 +200,7 @@ whole_parted m k c hs marks boxes l e f =
     let these : parts m k (members c hs) ≡ members c hs ∷ [] = ap (λ b. cond b (members c hs ∷ []) (map (part (members c hs)) (split m k (members c hs)))) (lt-ltb (size (members c hs)) (2 * k) l) in
     record {
       long = ap length e ∙ length-map hs (whole_mark c);
-      within = subst (λ n. All (Below n) marks) (sym (ap length f)) (subst (All (Below 1)) (sym e) (whole_below hs));
+      within = subst (λ n. AllByRecursion (Below n) marks) (sym (ap length f)) (subst (AllByRecursion (Below 1)) (sym e) (whole_below hs));
       others = ap (λ x. unmarked x hs) e ∙ unmarked_others c (whole_mark c) hs (all_in _ hs (λ h _. whole_some (eqb h.label c)));
       records = ap (λ b. map (λ j. marked j marks hs) (range_with_len 0 (length b))) f ∙ ap (λ x. marked 0 x hs ∷ []) e ∙ ap (λ x. x ∷ []) (marked_whole c hs) ∙ sym these;
       told = f ∙ ap (map (part_of m)) (sym these);
@@ -210,7 +210,7 @@ whole_parted m k c hs marks boxes l e f =
     one_below true = omega arith
     one_below false = tt
 
-    whole_below : (xs : List Held) → All (Below 1) (map (whole_mark c) xs)
+    whole_below : (xs : List Held) → AllByRecursion (Below 1) (map (whole_mark c) xs)
     whole_below [] = tt
     whole_below (x ∷ xs) = (one_below (eqb x.label c), whole_below xs)
 

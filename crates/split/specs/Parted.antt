@@ -1,6 +1,6 @@
 -- The parts of a cluster, told by a mark on each held record. Assumes nothing.
 use Rattle.std.specs.Prelude.{◌≡◌, ℕ, ◌<◌, Bool, false, cond, ◌&&◌, List, [], ◌∷◌, map, length, is_some, Some, None, Option, ◌==◌, nat_le}
-use Rattle.std.specs.List.{range_with_len, AllByRecursion as All}
+use Rattle.std.specs.List.{range_with_len, AllByRecursion}
 use Rattle.domain.specs.Meaning.{Meaning}
 use Rattle.rules.specs.declared.Entry.{Entry}
 use Rattle.rules.specs.declared.Held.{Held}
@@ -42,7 +42,7 @@ can_part hs k = nat_le (length hs) 256 && (nat_le 2 k && nat_le k 32)
 pub record Parted (m : Meaning) (k c : ℕ) (hs : List Held) (marks : List (Option ℕ)) (boxes : List Part) : Type 0 where
   -- a mark for each held record, none past the parts, and none on a record of another cluster
   pub long : length marks ≡ length hs
-  pub within : All (Below (length boxes)) marks
+  pub within : AllByRecursion (Below (length boxes)) marks
   pub others : unmarked marks hs ≡ others c hs
   -- in order of making, the records of each part, their box and its loss
   pub records : map (λ j. marked j marks hs) (range_with_len 0 (length boxes)) ≡ parts m k (members c hs)

@@ -1,6 +1,6 @@
 -- Leftover owners beside the parts made, for the functions inside. Assumes nothing.
 use Rattle.std.specs.Prelude.{◌≡◌, ℕ, ◌+◌, ◌-◌, ◌≤◌, Bool, cond, ◌&&◌, List, [], ◌∷◌, map, length, Some, None, Option, ◌==◌, nat_lt}
-use Rattle.std.specs.List.{AllByRecursion as All, IsFirstBest}
+use Rattle.std.specs.List.{AllByRecursion, IsFirstBest}
 use Rattle.domain.specs.Meaning.{Meaning}
 use Rattle.domain.specs.Boxes.{box_loss}
 use Rattle.rules.specs.declared.Entry.{Entry}
@@ -42,5 +42,5 @@ pub record Beside (m : Meaning) (c : ℕ) (hs : List Held) (ps : List (List ℕ)
 
 -- parts that have owners, and owners left over: no owner more often than among the records
 pub record ApartIn (es : List Entry) (ps : List (List ℕ)) (ws : List ℕ) : Type 0 where
-  pub some : All (λ p. 1 ≤ length p) ps
+  pub some : AllByRecursion (λ p. 1 ≤ length p) ps
   pub once : (o : ℕ) → total (λ p. total (one o) p) ps + total (one o) ws ≤ total (one o) (owners es)

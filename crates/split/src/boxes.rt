@@ -19,7 +19,7 @@ fn is_of(mark: Option<usize>, part: usize) -> bool
 
 // The box of so many records, `bounds`, once it takes in one more.
 fn with_one<D: Domain>(d: &D, bounds: [Range; PLACES], count: usize, e: &Entry) -> [Range; PLACES]
-    ensures { (es : List Entry) → length es ≡ count → bounds ≡ box_of (meaning d.now) es → result ≡ box_of (meaning d.now) (es ++ e.now ∷ []) }
+    ensures { (es : List Entry) → length es ≡ count → bounds ≡ box_of (D.meaning d.now) es → result ≡ box_of (D.meaning d.now) (es ++ e.now ∷ []) }
 {
     if count == 0 {
         return point_box(d, &e.fed.values);
@@ -32,7 +32,7 @@ fn with_one<D: Domain>(d: &D, bounds: [Range; PLACES], count: usize, e: &Entry) 
 // Box and loss of the held records that are marked as of the part.
 pub(crate) fn part_of<D: Domain>(d: &D, held: &[Held], marks: &[Option<usize>], part: usize) -> Part
     requires { length marks.now ≡ length held.now }
-    ensures { result ≡ part_of (meaning d.now) (marked part marks.now held.now) }
+    ensures { result ≡ part_of (D.meaning d.now) (marked part marks.now held.now) }
 {
     let mut bounds = [Range::point(0); PLACES];
     let mut count = 0;
@@ -59,7 +59,7 @@ pub(crate) fn measure<D: Domain>(
     requires long { length marks.now ≡ length held.now }
     requires bare { parts.old.items ≡ [] }
     requires room { made ≤ vec_capacity parts.old }
-    ensures all { parts.new.items ≡ map (λ j. part_of (meaning d.now) (marked j marks.now held.now)) (range_with_len 0 made) }
+    ensures all { parts.new.items ≡ map (λ j. part_of (D.meaning d.now) (marked j marks.now held.now)) (range_with_len 0 made) }
     ensures count { vec_len parts.new ≡ made }
     ensures capacity { vec_capacity parts.new ≡ vec_capacity parts.old }
 {

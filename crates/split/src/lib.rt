@@ -1,5 +1,7 @@
 // The parts of a cluster that is released: each owner's records stay together, and no part has fewer than k owners if
 // the cluster has that many.
+#![tactic(auto)]
+
 use domain::{PLACES, Range};
 
 mod boxes;

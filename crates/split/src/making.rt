@@ -45,7 +45,7 @@ fn is_other(face: &Face, seed: &Entry) -> bool
 
 // The places become a keeper of the other owners that remain.
 fn offer_others<D: Domain>(d: &D, faces: &[Face], seed: &Entry, near: &mut [Neighbour])
-    ensures keeps { Keeps rank_of no_neighbour near.new (map (neighbour (meaning d.now) seed.now) (others_than seed.now (remaining faces.now))) }
+    ensures keeps { Keeps rank_of no_neighbour near.new (map (neighbour (D.meaning d.now) seed.now) (others_than seed.now (remaining faces.now))) }
 {
     keeper::clear(near);
     for face in faces {
@@ -75,7 +75,7 @@ fn join(faces: &mut [Face], seed: u32, near: &[Neighbour], part: usize)
 // The next part: the first owner that remains, and of the others those nearest to him, as many as there are places.
 fn gather<D: Domain>(d: &D, faces: &mut [Face], near: &mut [Neighbour], part: usize)
     ensures fewer { 1 ≤ length (remaining faces.old) → length (remaining faces.new) < length (remaining faces.old) }
-    ensures next { (es : List Entry) (ps : List (List ℕ)) (p : List ℕ) → faces.old ≡ map (face ps) (earliest es) → length ps ≡ part → next_part (meaning d.now) (length near.old + 1) es (map owner (remaining faces.old)) ≡ Some p → faces.new ≡ map (face (ps ++ p ∷ [])) (earliest es) }
+    ensures next { (es : List Entry) (ps : List (List ℕ)) (p : List ℕ) → faces.old ≡ map (face ps) (earliest es) → length ps ≡ part → next_part (D.meaning d.now) (length near.old + 1) es (map owner (remaining faces.old)) ≡ Some p → faces.new ≡ map (face (ps ++ p ∷ [])) (earliest es) }
 {
     if let Some(seed) = first_remaining(faces) {
         offer_others(d, faces, &seed, near);
@@ -86,7 +86,7 @@ fn gather<D: Domain>(d: &D, faces: &mut [Face], near: &mut [Neighbour], part: us
 // The parts by owners, while more remain than there are places: how many were made.
 pub(crate) fn make_parts<D: Domain>(d: &D, faces: &mut [Face], near: &mut [Neighbour]) -> usize
     ensures few { result ≤ length faces.old }
-    ensures cuts { (es : List Entry) → faces.old ≡ map (face []) (earliest es) → Cuts (meaning d.now) (length near.old + 1) es faces.new result }
+    ensures cuts { (es : List Entry) → faces.old ≡ map (face []) (earliest es) → Cuts (D.meaning d.now) (length near.old + 1) es faces.new result }
 {
     let mut made = 0;
     while count_remaining(faces) > near.len() {

@@ -44,7 +44,7 @@ impl Ranked for Neighbour {
 
 // `e` as seen from the seed.
 pub(crate) fn seen_from<D: Domain>(d: &D, seed: &Entry, e: &Entry) -> Neighbour
-    ensures value { result ≡ neighbour (meaning d.now) seed.now e.now }
+    ensures value { result ≡ neighbour (D.meaning d.now) seed.now e.now }
     ensures near { result.distance < 4294967295 }
 {
     let mut bounds = point_box(d, &seed.fed.values);

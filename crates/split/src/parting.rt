@@ -45,7 +45,7 @@ pub(crate) fn split<D: Domain>(
     requires for_faces { length held.now ≤ vec_capacity faces.old }
     requires for_marks { length held.now ≤ vec_capacity marks.old }
     requires for_parts { length held.now ≤ vec_capacity parts.old }
-    ensures parted { 2 * (length near.old + 1) ≤ size (members label held.now) → Parted (meaning d.now) (length near.old + 1) label held.now marks.new.items parts.new.items }
+    ensures parted { 2 * (length near.old + 1) ≤ size (members label held.now) → Parted (D.meaning d.now) (length near.old + 1) label held.now marks.new.items parts.new.items }
     ensures keeps_faces { vec_capacity faces.new ≡ vec_capacity faces.old }
     ensures keeps_marks { vec_capacity marks.new ≡ vec_capacity marks.old }
     ensures keeps_parts { vec_capacity parts.new ≡ vec_capacity parts.old }
@@ -86,7 +86,7 @@ pub(crate) fn part_cluster<D: Domain>(
     requires for_one { 1 ≤ vec_capacity parts.old }
     requires least_crowd { 2 ≤ k }
     requires largest_crowd { k ≤ 32 }
-    ensures parted { cluster.now ≡ cluster_of (meaning d.now) held.now cluster.now.label → Parted (meaning d.now) k cluster.now.label held.now marks.new.items parts.new.items }
+    ensures parted { cluster.now ≡ cluster_of (D.meaning d.now) held.now cluster.now.label → Parted (D.meaning d.now) k cluster.now.label held.now marks.new.items parts.new.items }
     ensures keeps_faces { vec_capacity faces.new ≡ vec_capacity faces.old }
     ensures keeps_marks { vec_capacity marks.new ≡ vec_capacity marks.old }
     ensures keeps_parts { vec_capacity parts.new ≡ vec_capacity parts.old }

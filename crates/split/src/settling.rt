@@ -14,7 +14,7 @@ use rules::{Entry, Held};
 
 // By how much the stand-in widens the part's box.
 fn growth<D: Domain>(d: &D, part: &Part, stand_in: &Entry) -> u32
-    ensures { result ≡ box_growth (meaning d.now) stand_in.now part.now }
+    ensures { result ≡ box_growth (D.meaning d.now) stand_in.now part.now }
 {
     let mut wider = part.bounds;
     widen(d, &mut wider, &stand_in.fed.values);
@@ -24,7 +24,7 @@ fn growth<D: Domain>(d: &D, part: &Part, stand_in: &Entry) -> u32
 // The place of the part that grows least, the first made of equals.
 fn least_grown<D: Domain>(d: &D, parts: &[Part], stand_in: &Entry) -> usize
     requires { 1 ≤ length parts.now }
-    ensures { FirstLeastGrown (meaning d.now) stand_in.now parts.now result }
+    ensures { FirstLeastGrown (D.meaning d.now) stand_in.now parts.now result }
 {
     let mut best = 0;
     let mut least = growth(d, &parts[0], stand_in);
@@ -67,9 +67,9 @@ fn settle_owner<D: Domain>(
 ) -> usize
     requires long { length marks.old ≡ length held.now }
     requires some { 1 ≤ length parts.old }
-    ensures least { FirstLeastGrown (meaning d.now) stand_in.now parts.old result }
+    ensures least { FirstLeastGrown (D.meaning d.now) stand_in.now parts.old result }
     ensures marks { marks.new ≡ remarked label (owner stand_in.now) result held.now marks.old }
-    ensures parts { parts.new ≡ slice_set parts.old result (part_of (meaning d.now) (marked result marks.new held.now)) }
+    ensures parts { parts.new ≡ slice_set parts.old result (part_of (D.meaning d.now) (marked result marks.new held.now)) }
 {
     let part = least_grown(d, parts, stand_in);
     mark_owner(held, label, stand_in.fed.owner, part, marks);
@@ -88,7 +88,7 @@ pub(crate) fn settle_remaining<D: Domain>(
 )
     requires long { length marks.old ≡ length held.now }
     requires some { 1 ≤ length parts.old }
-    ensures { (ps : List (List ℕ)) → faces.now ≡ map (face ps) (earliest (members label held.now)) → Beside (meaning d.now) label held.now ps marks.old parts.old → ApartIn (members label held.now) ps (map owner (remaining faces.now)) → Beside (meaning d.now) label held.now (fold (settle (meaning d.now) (members label held.now)) ps (map owner (remaining faces.now))) marks.new parts.new }
+    ensures { (ps : List (List ℕ)) → faces.now ≡ map (face ps) (earliest (members label held.now)) → Beside (D.meaning d.now) label held.now ps marks.old parts.old → ApartIn (members label held.now) ps (map owner (remaining faces.now)) → Beside (D.meaning d.now) label held.now (fold (settle (D.meaning d.now) (members label held.now)) ps (map owner (remaining faces.now))) marks.new parts.new }
 {
     for face in faces {
         if lacks_part(face) {

@@ -1,6 +1,6 @@
 -- A pool has a place for the record that arrives.
 use Rattle.std.proofs.Common.{◌≡◌, ℕ, ◌+◌, ◌<◌, ◌≤◌, true, ◌&&◌, ltb, ◌⊎◌, List, [], ◌∷◌, ◌++◌, length, IfSome, IfNone, Some, None, vec_items, vec_len, vec_capacity, Option, sym, refl, ap, ◌∙◌, subst, inl, inr, arith}
-use Rattle.std.specs.List.{AllByRecursion as All}
+use Rattle.std.specs.List.{AllByRecursion}
 use Rattle.std.proofs.ByRecursion.{All-weaker}
 use Rattle.std.proofs.lemmas.Bool.{lt-ltb, and_from}
 use Rattle.domain.specs.Meaning.{Meaning}
@@ -35,5 +35,5 @@ module _ {m : Meaning} {g : Settings} {h : History} {s : State} (run : Run m g h
   has_place e at (Some i) l r = and_from (is_place p i) (can_hold p) (lt-ltb i (vec_len p.clusters) l) takes_one
   has_place e at None l r = (
     takes_both r,
-    subst (All (λ h. h.label < e.position)) same (All-weaker (λ h. h.label ≤ s.accepted) (λ h. h.label < e.position) (λ h l. omega (arith, l, at)) s.held (facts run).ordered.old_labels),
+    subst (AllByRecursion (λ h. h.label < e.position)) same (All-weaker (λ h. h.label ≤ s.accepted) (λ h. h.label < e.position) (λ h l. omega (arith, l, at)) s.held (facts run).ordered.old_labels),
   )

@@ -1,6 +1,6 @@
 -- The held record that is due is the first with its deadline.
 use Rattle.std.proofs.Common.{◌≡◌, ℕ, zero, suc, ◌+◌, ◌<◌, ◌≤◌, Bool, true, false, cond, List, [], ◌∷◌, ◌++◌, length, get_or, take, drop, Some, None, filter, sym, refl, ap, ◌∙◌, subst, arith}
-use Rattle.std.specs.List.{AllByRecursion as All}
+use Rattle.std.specs.List.{AllByRecursion}
 use Rattle.std.proofs.lemmas.List.{drop_more, drop_all, take-append-drop}
 use Rattle.std.proofs.lemmas.List.Elements.{filter-append}
 use Rattle.std.proofs.ByRecursion.{All-weaker}
@@ -14,7 +14,7 @@ use Rattle.rules.specs.Facts.{ByPosition}
 
 -- none of the first i is due
 abbrev pub Early : Settings → ℕ → List Held → Type 0
-Early g n hs = All (λ h. deadline g h.entry < n) hs
+Early g n hs = AllByRecursion (λ h. deadline g h.entry < n) hs
 
 by_position_drop : (i : ℕ) (hs : List Held) → ByPosition hs → ByPosition (drop i hs)
 by_position_drop zero hs a = a
@@ -41,5 +41,5 @@ module _ (g : Settings) (s : State) where
       let x = get_or hs i d in
       let here : drop i hs ≡ get_or hs i d ∷ drop (i + 1) hs = drop_more hs i d l in
       let up : ByPosition (get_or hs i d ∷ drop (i + 1) hs) = subst ByPosition here (by_position_drop i hs b) in
-      let none : All (λ h. is_due g s h ≡ false) (get_or hs i d ∷ drop (i + 1) hs) = (ne_eqb _ _ (λ e. omega (arith, is, above, e)), All-weaker _ _ (λ h l. ne_eqb (deadline g h.entry) s.accepted (λ e. omega (arith, l, is, above, e))) (drop (i + 1) hs) up.0) in
+      let none : AllByRecursion (λ h. is_due g s h ≡ false) (get_or hs i d ∷ drop (i + 1) hs) = (ne_eqb _ _ (λ e. omega (arith, is, above, e)), All-weaker _ _ (λ h l. ne_eqb (deadline g h.entry) s.accepted (λ e. omega (arith, l, is, above, e))) (drop (i + 1) hs) up.0) in
       sym (ap head (skipped i hs a ∙ ap (filter (is_due g s)) here ∙ kept_by_none (is_due g s) (x ∷ drop (i + 1) hs) none))

@@ -1,6 +1,6 @@
 -- Taking over on a stream, round by round.
 use Rattle.std.proofs.Common.{◌≡◌, ℕ, suc, ◌+◌, ◌-◌, ◌<◌, ◌≤◌, Bool, true, false, leb, List, length, vec_items, sym, refl, ap, ◌∙◌, subst, ⊎_elim, arith}
-use Rattle.std.specs.List.{AllByRecursion as All}
+use Rattle.std.specs.List.{AllByRecursion}
 use Rattle.std.proofs.ByRecursion.{All-map, All-weaker}
 use Rattle.domain.specs.Meaning.{Meaning}
 use Rattle.rules.specs.declared.Held.{Held}
@@ -15,7 +15,7 @@ use Rattle.stream.specs.declared.stream.Stream.{Stream}
 use Rattle.stream.specs.Views.{view, Stands}
 use Rattle.stream.specs.Within.{SameTerms, Holds, Round}
 
-pub merged_fit : (m : Meaning) (c d : ℕ) (hs : List Held) → All (λ h. Fit m h.entry) hs → All (λ h. Fit m h.entry) (merged c d hs)
+pub merged_fit : (m : Meaning) (c d : ℕ) (hs : List Held) → AllByRecursion (λ h. Fit m h.entry) hs → AllByRecursion (λ h. Fit m h.entry) (merged c d hs)
 merged_fit m c d hs a = All-map (λ h. Fit m h.entry) (moved c d) hs (All-weaker (λ h. Fit m h.entry) (λ h. Fit m (moved c d h).entry) (λ h f. subst (Fit m) (sym (moved_entry c d h)) f) hs a)
 
 module _ {D : Type 0} (m : Meaning) (c : ℕ) where
@@ -25,7 +25,7 @@ module _ {D : Type 0} (m : Meaning) (c : ℕ) where
   -- what a round is given
   pub record Ready (s : Stream D) : Type 0 where
     pub stands : Stands m s
-    pub fit : All (λ h. Fit m h.entry) (held s)
+    pub fit : AllByRecursion (λ h. Fit m h.entry) (held s)
     pub is_open : In (clusters (held s)) c
 
   -- after i of n rounds: what is to come gives what all n rounds give
@@ -50,7 +50,7 @@ module _ {D : Type 0} (m : Meaning) (c : ℕ) where
         rest = r.3.state ∙ ap (λ (x : State). holding x (merged c d hs)) a.rest ∙ ap (holding (view start)) (sym same);
         ready = record {
           stands = r.3.stands;
-          fit = subst (All (λ h. Fit m h.entry)) (sym same) (merged_fit m c d hs a.ready.fit);
+          fit = subst (AllByRecursion (λ h. Fit m h.entry)) (sym same) (merged_fit m c d hs a.ready.fit);
           is_open = subst (λ x. In (clusters x) c) (sym same) (merged_open c d hs a.ready.is_open);
         };
       }
@@ -70,5 +70,5 @@ module _ {D : Type 0} (m : Meaning) (c : ℕ) where
       r.1
 
   -- a round that is told of the domain's meaning by another name
-  pub round_at : (m' : Meaning) (b : Bool) (s t : Stream D) → m' ≡ m → (Stands m' s → All (λ h. Fit m' h.entry) (held s) → In (clusters (held s)) c → Round m' c b s t) → Ready s → Round m c b s t
-  round_at m' b s t e f r = subst (λ x. Stands x s → All (λ h. Fit x h.entry) (held s) → In (clusters (held s)) c → Round x c b s t) e f r.stands r.fit r.is_open
+  pub round_at : (m' : Meaning) (b : Bool) (s t : Stream D) → m' ≡ m → (Stands m' s → AllByRecursion (λ h. Fit m' h.entry) (held s) → In (clusters (held s)) c → Round m' c b s t) → Ready s → Round m c b s t
+  round_at m' b s t e f r = subst (λ x. Stands x s → AllByRecursion (λ h. Fit x h.entry) (held s) → In (clusters (held s)) c → Round x c b s t) e f r.stands r.fit r.is_open

@@ -1,6 +1,6 @@
 -- Parts that go out one after the other.
 use Rattle.std.proofs.Common.{◌≡◌, ℕ, ◌+◌, ◌<◌, ◌≤◌, min, List, [], ◌∷◌, ◌++◌, map, length, get_or, take, fold, Option, sym, refl, ap, ◌∙◌, subst, arith}
-use Rattle.std.specs.List.{range_with_len, AllByRecursion as All}
+use Rattle.std.specs.List.{range_with_len, AllByRecursion}
 use Rattle.std.proofs.ByRecursion.{All-weaker}
 use Rattle.std.proofs.lemmas.List.{length-append, length-map, length-take-le, get_or-map, take_all, take_more}
 use Rattle.std.proofs.lemmas.List.FromFn.{get_or-map-range_with_len}
@@ -50,7 +50,7 @@ some_records : (k : ℕ) (es : List Entry) → 1 ≤ k → k ≤ size es → 1 �
 some_records k [] a l = omega (arith, a, l)
 some_records k (e ∷ es) a l = omega arith
 
-each_counts : (qs : List (List Entry)) → All (λ q. 1 ≤ length q) qs → length qs ≤ totals (λ _. 1) qs
+each_counts : (qs : List (List Entry)) → AllByRecursion (λ q. 1 ≤ length q) qs → length qs ≤ totals (λ _. 1) qs
 each_counts [] a = omega arith
 each_counts (q ∷ qs) a = omega (arith, a.0, length_total q, each_counts qs a.1)
 

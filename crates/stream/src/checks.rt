@@ -25,7 +25,7 @@ fn within_limits(g: Settings) -> bool
 
 // Why no stream over the domain is opened with these settings.
 pub(crate) fn open_refusal<D: Domain>(d: &D, settings: Settings) -> Option<OpenRefusal>
-    ensures { result ≡ open_refusal (meaning d.now) settings }
+    ensures { result ≡ open_refusal (D.meaning d.now) settings }
 {
     let width = d.width();
     if width == 0 || width > PLACES {
@@ -39,7 +39,7 @@ pub(crate) fn open_refusal<D: Domain>(d: &D, settings: Settings) -> Option<OpenR
 
 // The lowest column at fault: the owner's is 1, and those of the attributes follow.
 pub(crate) fn unfit<D: Domain>(d: &D, fed: &Record) -> Option<u32>
-    ensures { result ≡ first_of (faults (meaning d.now) fed.now) }
+    ensures { result ≡ first_of (faults (D.meaning d.now) fed.now) }
 {
     if fed.owner == 0 {
         return Some(1);

@@ -1,4 +1,6 @@
 // The stream: records are fed in, and go out in boxes behind which a crowd stands, or are suppressed.
+#![tactic(auto)]
+
 mod checks;
 mod dues;
 mod faults;

@@ -34,7 +34,7 @@ fn answer<D: Domain>(
     list: &mut [Line],
 ) -> Result<usize, Refusal>
     ensures terms { SameTerms stream.old stream.new }
-    ensures goes_on { (h : History) → Leads (D.Domain.meaning stream.old.domain) h stream.old → Goes_on (D.Domain.meaning stream.old.domain) h (call_of (length list.old) call) result list.old list.new stream.new }
+    ensures goes_on { (h : History) → Leads (D.meaning stream.old.domain) h stream.old → Goes_on (D.meaning stream.old.domain) h (call_of (length list.old) call) result list.old list.new stream.new }
 {
     match call {
         Call::Feed(fed) => stream.feed(fed, list),
@@ -45,7 +45,7 @@ fn answer<D: Domain>(
 // Makes the call, and answers how many lines it wrote: none if it was turned away.
 fn make<D: Domain>(stream: &mut Stream<D>, call: Call, list: &mut [Line]) -> usize
     ensures terms { SameTerms stream.old stream.new }
-    ensures made { (h : History) → Leads (D.Domain.meaning stream.old.domain) h stream.old → Made (D.Domain.meaning stream.old.domain) h (call_of (length list.old) call) list.new result stream.new }
+    ensures made { (h : History) → Leads (D.meaning stream.old.domain) h stream.old → Made (D.meaning stream.old.domain) h (call_of (length list.old) call) list.new result stream.new }
 {
     match answer(stream, call, list) {
         Ok(n) => n,
@@ -61,7 +61,7 @@ pub fn replay_calls<D: Domain + Drop>(
     calls: &[Call],
     list: &mut [Line],
 ) -> Result<Replay<D>, OpenFault>
-    ensures { Replays (D.Domain.meaning domain) settings calls.now (length list.old) result }
+    ensures { Replays (D.meaning domain) settings calls.now (length list.old) result }
 {
     let mut stream = match Stream::open(heap, domain, settings) {
         Ok(stream) => stream,

@@ -1,10 +1,9 @@
 -- The tests of the groups, as the code makes them, and one group more.
-use Rattle.std.proofs.Common.{◌≡◌, ℕ, ◌-◌, Bool, true, false, cond, ◌&&◌, ◌||◌, eqb, List, [], ◌∷◌, ◌++◌, get_or, Decides, sym, refl, ap, ◌∙◌, subst}
+use Rattle.std.proofs.Common.{◌≡◌, ℕ, ◌-◌, Bool, true, false, cond, ◌&&◌, ◌||◌, eqb, List, [], ◌∷◌, ◌++◌, get_or, Decides, sym, refl, ap, ◌∙◌, subst, arith}
 use mathlib.Core.Bool.{Bool-set}
-use Rattle.std.specs.List.{IsAnyAnswer}
-use Rattle.std.proofs.lemmas.List.Elements.{contains_decides}
+use Rattle.std.specs.List.{list_any}
 use Rattle.std.proofs.lemmas.Bool.{and_parts, and_from, false≢true, cond-true}
-use Rattle.std.proofs.lemmas.Bool.Decides.{same_from_decides, Decides-by_or, Decides-eqb}
+use Rattle.std.proofs.lemmas.Bool.Decides.{nat_tests}
 use Rattle.domain.specs.declared.range.Range.{Range}
 use Rattle.domain.specs.Boxes.{all_pass}
 use Rattle.domain.specs.Interval.{interval_meaning}
@@ -16,27 +15,13 @@ use Rattle.taxonomy.specs.Groups.{whole, nested, in_tree, well_nested, same, amo
 use Rattle.taxonomy.specs.Taxonomy.{taxonomy_meaning, leaves_of, groups_of, taxonomy_of}
 use Rattle.taxonomy.specs.TaxonomyFacts.{same_tells, same_from, in_tree_tells, in_whole}
 
-same_decides : (a y : Range) → Decides (same a y) (y ≡ a)
-same_decides a y = (λ s. sym (same_tells a y s), λ e. same_from a y (sym e))
+other_way : (a y : Range) → same y a ≡ same a y
+other_way a y = grind (arith, nat_tests)
 
--- what `==` tells of two ranges
-abbrev Equals : Range → Range → Bool → Type 0
-Equals x y t = cond {A = Type 0} t (Decides true (x.low ≡ y.low) × Decides true (x.high ≡ y.high)) ((Decides false (x.low ≡ y.low) → ⊥) → (Decides false (x.high ≡ y.high) → ⊥) → ⊥)
-
-equal_decides : (x y : Range) (t : Bool) → Equals x y t → Decides t (x ≡ y)
-equal_decides x y true h =
-    let low = h.0.0 refl in
-    let high = h.1.0 refl in
-    (λ _. λ i. record { low = low i; high = high i }, λ _. refl)
-equal_decides x y false h =
-    (λ e. absurd (false≢true e), λ e. absurd (h (λ d. false≢true (d.1 (ap (λ r. r.low) e))) (λ d. false≢true (d.1 (ap (λ r. r.high) e)))))
-
-some_decides : (gs : List Range) (a : Range) (r : Bool) → IsAnyAnswer (λ y t. Equals y a t) gs r → IsAnyAnswer (λ y t. Decides t (y ≡ a)) gs r
-some_decides gs a true (k, l, at) = (k, l, λ d. equal_decides (get_or gs k d) a true (at d))
-some_decides gs a false every = λ k d l u. equal_decides (get_or gs k d) a false (every k d l u)
-
-pub contains_among : (gs : List Range) (a : Range) (r : Bool) → IsAnyAnswer (λ y t. Equals y a t) gs r → r ≡ among a gs
-contains_among gs a r h = same_from_decides r (among a gs) (contains_decides eqb Decides-eqb gs a r (some_decides gs a r h)) (Decides-by_or (same a) (λ y. y ≡ a) (among a) (same_decides a) refl (λ _ _. refl) gs)
+-- what `contains` tells of the groups
+pub any_among : (gs : List Range) (a : Range) → list_any (λ y. same y a) gs ≡ among a gs
+any_among [] a = refl
+any_among (g ∷ gs) a = ap (λ b. b || list_any (λ y. same y a) gs) (other_way a g) ∙ ap (λ b. same a g || b) (any_among gs a)
 
 -- ---- the loss of an allowed range is that of the interval
 

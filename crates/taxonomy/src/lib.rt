@@ -1,4 +1,6 @@
 // Taxonomies: a tree of leaves, with groups that are nested.
+#![tactic(auto)]
+
 ghost use Rattle.std.specs.Prelude.{◌≡◌, ◌≤◌, true, vec_len, vec_capacity};
 ghost use Rattle.taxonomy.specs.Groups.{most_leaves, most_groups, well_nested};
 

@@ -1,4 +1,6 @@
 // Reads the examples of RFC 4180, section 2, and tells the fields that came out.
+#![tactic(auto)]
+
 use rfc4180::{Field, read_line};
 use std::{fmt, io};
 

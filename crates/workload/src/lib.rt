@@ -1,4 +1,6 @@
 // Records that are drawn alike on every machine, the domains that they belong to, and a checksum of the lines that go out.
+#![tactic(auto)]
+
 mod checksum;
 mod domains;
 mod source;

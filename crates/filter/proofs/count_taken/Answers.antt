@@ -2,16 +2,16 @@ use Rattle.std.proofs.Common.{◌≡◌, true, false, length, is_ok, filter, sym
 use Rattle.std.proofs.lemmas.List.{take_all}
 use Rattle.filter.proofs.Counting.{one_more}
 use Rattle.filter.proofs.count_taken.Goals as goal
-use Rattle.filter.proofs.count_taken.Goals.{then-is-ok, else-is-ok}
+use Rattle.filter.proofs.count_taken.Goals.{then-is_ok, else-is_ok}
 
 pub loop-line-preserved : goal.loop-line-preserved
 loop-line-preserved c =
-    elim c.if-is-ok.branch [
-      | then-is-ok w ↦
-          let more = one_more c.args.lines.now c.loop-line.line-index c.loop-line.taken _ true (omega arith) c.loop-line.invariant.0 w.if-is-ok.ensures.value in
+    elim c.if-is_ok.branch [
+      | then-is_ok w ↦
+          let more = one_more c.args.lines.now c.loop-line.line-index c.loop-line.taken _ true (omega arith) c.loop-line.invariant.0 w.if-is_ok.ensures.value in
           (w.taken-is ∙ more, omega (arith, w.taken-is))
-      | else-is-ok w ↦
-          let more = one_more c.args.lines.now c.loop-line.line-index c.loop-line.taken _ false (omega arith) c.loop-line.invariant.0 w.if-is-ok.ensures.value in
+      | else-is_ok w ↦
+          let more = one_more c.args.lines.now c.loop-line.line-index c.loop-line.taken _ false (omega arith) c.loop-line.invariant.0 w.if-is_ok.ensures.value in
           (w.taken-is ∙ sym (add-zero c.loop-line.taken) ∙ more, omega (arith, w.taken-is))
     ]
 

@@ -12,7 +12,7 @@ loop-place-preserved g c =
     let places = c.args.places.now in
     let i = c.loop-place.place-index in
     let x = c.place-item.result in
-    let test = test_at k.rank k.empty places i c.mark-mark.result x true c.mark-mark.ensures c.place-item.is c.if-not-ranks-below.ensures in
+    let test = test_at k.rank k.empty places i c.mark-mark.result x true c.mark-mark.ensures c.place-item.is c.if-not-ranks_below.ensures in
     (omega arith, omega (arith, c.loop-place.invariant.1, prefix_len-drop_yes (λ y. lower (k.rank y) (k.rank k.empty)) places i x (omega arith) test))
 
 pub returns-after-loop-place : goal.returns-after-loop-place
@@ -29,13 +29,13 @@ returns-after-loop-place g c =
       computes = λ by n xs. computes by n xs;
     }
 
-pub returns-then-not-ranks-below : goal.returns-then-not-ranks-below
-returns-then-not-ranks-below g c =
+pub returns-then-not-ranks_below : goal.returns-then-not-ranks_below
+returns-then-not-ranks_below g c =
     let k = g.T.Ranked in
     let places = c.args.places.now in
     let i = c.loop-place.place-index in
     let x = c.place-item.result in
-    let test = test_at k.rank k.empty places i c.mark-mark.result x false c.mark-mark.ensures c.place-item.is c.if-not-ranks-below.ensures in
+    let test = test_at k.rank k.empty places i c.mark-mark.result x false c.mark-mark.ensures c.place-item.is c.if-not-ranks_below.ensures in
     let counts : c.loop-place.n ≡ count_in k.rank k.empty places =
     omega (arith, c.loop-place.invariant.0, c.loop-place.invariant.1, prefix_len-drop_no (λ y. lower (k.rank y) (k.rank k.empty)) places i x (omega arith) test) in
     record {

@@ -99,8 +99,8 @@ impl Ledger {
 
     // The kept box of lowest rank among those that cover the values.
     pub fn cover<D: Domain>(&self, d: &D, values: &[u32; PLACES]) -> Option<KeptBox>
-        ensures first { result ≡ chosen (filter (λ b. boxes.covers (meaning d.now) b.ranges values.now) (kept_boxes self.now)) }
-        ensures value { option_map kept_of result ≡ chosen (filter (λ b. boxes.covers (meaning d.now) b.ranges values.now) (ledger_boxes self.now).kept) }
+        ensures first { result ≡ chosen (filter (λ b. boxes.covers (D.meaning d.now) b.ranges values.now) (kept_boxes self.now)) }
+        ensures value { option_map kept_of result ≡ chosen (filter (λ b. boxes.covers (D.meaning d.now) b.ranges values.now) (ledger_boxes self.now).kept) }
     {
         for b in keeper::items(&self.kept) {
             if covers(d, &b.ranges, values) {

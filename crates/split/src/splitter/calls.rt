@@ -41,7 +41,7 @@ impl Splitter {
     // Parts the members of the cluster at crowd `k`. Nothing is parted where there are too many held records, or at a
     // crowd that no stream has.
     pub fn part<D: Domain>(&mut self, d: &D, held: &[Held], cluster: &Cluster, k: u32)
-        ensures parted { cluster.now ≡ cluster_of (meaning d.now) held.now cluster.now.label → length held.now ≤ 256 → 2 ≤ k → k ≤ 32 → Parted (meaning d.now) k cluster.now.label held.now (marks_in self.new) (parts_in self.new) }
+        ensures parted { cluster.now ≡ cluster_of (D.meaning d.now) held.now cluster.now.label → length held.now ≤ 256 → 2 ≤ k → k ≤ 32 → Parted (D.meaning d.now) k cluster.now.label held.now (marks_in self.new) (parts_in self.new) }
         ensures no_marks { can_part held.now k ≡ false → marks_in self.new ≡ [] }
         ensures no_parts { can_part held.now k ≡ false → parts_in self.new ≡ [] }
     {

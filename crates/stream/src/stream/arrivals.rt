@@ -19,7 +19,7 @@ use rules::Entry;
 
 // The record joins the cluster at that place of the table, or opens one.
 fn house<D: Domain>(pool: &mut Pool, d: &D, home: Option<usize>, entry: Entry)
-    ensures housed { Faithful (meaning d.now) pool.old → HasPlace pool.old home entry → Housed (meaning d.now) home entry pool.old pool.new }
+    ensures housed { Faithful (D.meaning d.now) pool.old → HasPlace pool.old home entry → Housed (D.meaning d.now) home entry pool.old pool.new }
     ensures memory { SameMemory pool.old pool.new }
 {
     match home {
@@ -33,7 +33,7 @@ impl<D: Domain> Stream<D> {
     pub(crate) fn arrive(&mut self, fed: Record)
         requires { self.old.accepted < 4000000000 }
         ensures terms { SameTerms self.old self.new }
-        ensures arrives { (h : History) (room : ℕ) → Leads (D.Domain.meaning self.old.domain) h self.old → feed_refusal (D.Domain.meaning self.old.domain) (view self.old) fed room ≡ None → Holds (D.Domain.meaning self.old.domain) (arrival.arrive (D.Domain.meaning self.old.domain) self.old.settings (view self.old) (entered (self.old.accepted + 1) fed)) self.new }
+        ensures arrives { (h : History) (room : ℕ) → Leads (D.meaning self.old.domain) h self.old → feed_refusal (D.meaning self.old.domain) (view self.old) fed room ≡ None → Holds (D.meaning self.old.domain) (arrival.arrive (D.meaning self.old.domain) self.old.settings (view self.old) (entered (self.old.accepted + 1) fed)) self.new }
     {
         let entry = Entry {
             position: self.accepted + 1,

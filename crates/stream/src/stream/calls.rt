@@ -25,7 +25,7 @@ const MOST_RECORDS: u32 = 4_000_000_000;
 impl<D: Domain + Drop> Stream<D> {
     // A stream over the domain, before the first record. All memory that it needs is reserved here.
     pub fn open(heap: Global, domain: D, settings: Settings) -> Result<Stream<D>, OpenFault>
-        ensures { Opens (D.Domain.meaning domain) domain settings result }
+        ensures { Opens (D.meaning domain) domain settings result }
     {
         if let Some(refusal) = open_refusal(&domain, settings) {
             return Err(OpenFault::Refused(refusal));
@@ -49,7 +49,7 @@ impl<D: Domain + Drop> Stream<D> {
 impl<D: Domain> Stream<D> {
     // Why a feeding is turned away, with a list of so many places.
     fn feed_refusal(&self, fed: &Record, room: usize) -> Option<Refusal>
-        ensures { result ≡ refusals.feed_refusal (D.Domain.meaning self.now.domain) (view self.now) fed.now room }
+        ensures { result ≡ refusals.feed_refusal (D.meaning self.now.domain) (view self.now) fed.now room }
     {
         if self.closed {
             Some(Refusal::Closed)
@@ -81,7 +81,7 @@ impl<D: Domain> Stream<D> {
     // The held record whose deadline has come has its turn. Writes from the list's start, and answers how many lines.
     fn serve_due(&mut self, list: &mut [Line]) -> usize
         ensures terms { SameTerms self.old self.new }
-        ensures serves { refusals.open_refusal (D.Domain.meaning self.old.domain) self.old.settings ≡ None → Between (D.Domain.meaning self.old.domain) self.old.settings (view self.old) → Stands (D.Domain.meaning self.old.domain) self.old → length self.old.pool.held.items ≤ length list.old → Serves (D.Domain.meaning self.old.domain) self.old list.old list.new result self.new }
+        ensures serves { refusals.open_refusal (D.meaning self.old.domain) self.old.settings ≡ None → Between (D.meaning self.old.domain) self.old.settings (view self.old) → Stands (D.meaning self.old.domain) self.old → length self.old.pool.held.items ≤ length list.old → Serves (D.meaning self.old.domain) self.old list.old list.new result self.new }
     {
         match due(self.pool.held.as_slice(), &self.settings, self.accepted) {
             Some(at) => self.turn(at, list, 0),
@@ -91,10 +91,10 @@ impl<D: Domain> Stream<D> {
 
     // One record more. The lines that it lets go begin the list; the answer tells how many.
     pub fn feed(&mut self, fed: Record, list: &mut [Line]) -> Result<usize, Refusal>
-        ensures refusal { refusal_of result ≡ refusals.feed_refusal (D.Domain.meaning self.old.domain) (view self.old) fed (length list.old) }
+        ensures refusal { refusal_of result ≡ refusals.feed_refusal (D.meaning self.old.domain) (view self.old) fed (length list.old) }
         ensures unchanged { is_ok result ≡ false → (self.new ≡ self.old) × (list.new ≡ list.old) }
         ensures terms { SameTerms self.old self.new }
-        ensures goes_on { (h : History) → Leads (D.Domain.meaning self.old.domain) h self.old → Goes_on (D.Domain.meaning self.old.domain) h (feeding fed (length list.old)) result list.old list.new self.new }
+        ensures goes_on { (h : History) → Leads (D.meaning self.old.domain) h self.old → Goes_on (D.meaning self.old.domain) h (feeding fed (length list.old)) result list.old list.new self.new }
     {
         if let Some(refusal) = self.feed_refusal(&fed, list.len()) {
             return Err(refusal);
@@ -108,7 +108,7 @@ impl<D: Domain> Stream<D> {
         ensures refusal { refusal_of result ≡ refusals.close_refusal (view self.old) (length list.old) }
         ensures unchanged { is_ok result ≡ false → (self.new ≡ self.old) × (list.new ≡ list.old) }
         ensures terms { SameTerms self.old self.new }
-        ensures goes_on { (h : History) → Leads (D.Domain.meaning self.old.domain) h self.old → Goes_on (D.Domain.meaning self.old.domain) h (closing (length list.old)) result list.old list.new self.new }
+        ensures goes_on { (h : History) → Leads (D.meaning self.old.domain) h self.old → Goes_on (D.meaning self.old.domain) h (closing (length list.old)) result list.old list.new self.new }
     {
         if let Some(refusal) = self.close_refusal(list.len()) {
             return Err(refusal);

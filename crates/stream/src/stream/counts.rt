@@ -12,7 +12,7 @@ impl<D: Domain> Stream<D> {
     // How many records were accepted since opening.
     pub fn accepted(&self) -> u32
         ensures value { result ≡ (view self.now).accepted }
-        ensures counts { (h : History) → Leads (D.Domain.meaning self.now.domain) h self.now → result ≡ length (promise.accepted h) }
+        ensures counts { (h : History) → Leads (D.meaning self.now.domain) h self.now → result ≡ length (promise.accepted h) }
     {
         self.accepted
     }
@@ -20,7 +20,7 @@ impl<D: Domain> Stream<D> {
     // How many of them are held.
     pub fn held(&self) -> usize
         ensures value { result ≡ length (view self.now).held }
-        ensures counts { (h : History) → Leads (D.Domain.meaning self.now.domain) h self.now → result + length (promise.written h) ≡ length (promise.accepted h) }
+        ensures counts { (h : History) → Leads (D.meaning self.now.domain) h self.now → result + length (promise.written h) ≡ length (promise.accepted h) }
     {
         self.pool.held.len()
     }
@@ -28,7 +28,7 @@ impl<D: Domain> Stream<D> {
     // How many of them were suppressed.
     pub fn suppressed(&self) -> u32
         ensures value { result ≡ (view self.now).suppressed }
-        ensures counts { (h : History) → Leads (D.Domain.meaning self.now.domain) h self.now → result ≡ facts.suppressed_lines (promise.written h) }
+        ensures counts { (h : History) → Leads (D.meaning self.now.domain) h self.now → result ≡ facts.suppressed_lines (promise.written h) }
     {
         self.suppressed
     }

@@ -14,7 +14,7 @@ impl<D: Domain> Stream<D> {
     // are enough.
     pub(crate) fn drain(&mut self, list: &mut [Line]) -> usize
         ensures terms { SameTerms self.old self.new }
-        ensures drained { open_refusal (D.Domain.meaning self.old.domain) self.old.settings ≡ None → Between (D.Domain.meaning self.old.domain) self.old.settings (view self.old) → Stands (D.Domain.meaning self.old.domain) self.old → length self.old.pool.held.items ≤ length list.old → Drained (D.Domain.meaning self.old.domain) self.old list.old list.new result self.new }
+        ensures drained { open_refusal (D.meaning self.old.domain) self.old.settings ≡ None → Between (D.meaning self.old.domain) self.old.settings (view self.old) → Stands (D.meaning self.old.domain) self.old → length self.old.pool.held.items ≤ length list.old → Drained (D.meaning self.old.domain) self.old list.old list.new result self.new }
     {
         let mut n = 0;
         for _ in 0..self.pool.held.len() {

@@ -17,7 +17,7 @@ impl<D: Domain> Stream<D> {
     // The record at place `at` is written by this line.
     pub(crate) fn write_off(&mut self, at: usize, line: Line, list: &mut [Line], n: usize) -> usize
         ensures terms { SameTerms self.old self.new }
-        ensures comes { (t : Held) → slice_index_or self.old.pool.held.items at t ≡ t → at < vec_len self.old.pool.held → n < length list.old → ByPosition self.old.pool.held.items → Stands (D.Domain.meaning self.old.domain) self.old → Comes (D.Domain.meaning self.old.domain) (record { lines = line ∷ []; after = holding (view self.old) (turns.without t self.old.pool.held.items) }) n list.old list.new result self.new }
+        ensures comes { (t : Held) → slice_index_or self.old.pool.held.items at t ≡ t → at < vec_len self.old.pool.held → n < length list.old → ByPosition self.old.pool.held.items → Stands (D.meaning self.old.domain) self.old → Comes (D.meaning self.old.domain) (record { lines = line ∷ []; after = holding (view self.old) (turns.without t self.old.pool.held.items) }) n list.old list.new result self.new }
     {
         self.pool.leave(&self.domain, at);
         put(list, n, line)
@@ -32,7 +32,7 @@ impl<D: Domain> Stream<D> {
         n: usize,
     ) -> usize
         ensures terms { SameTerms self.old self.new }
-        ensures comes { (t : Held) → t.entry ≡ entry.now → slice_index_or self.old.pool.held.items at t ≡ t → at < vec_len self.old.pool.held → n < length list.old → self.old.suppressed < 4294967295 → ByPosition self.old.pool.held.items → Stands (D.Domain.meaning self.old.domain) self.old → Comes (D.Domain.meaning self.old.domain) (turns.suppress (view self.old) t) n list.old list.new result self.new }
+        ensures comes { (t : Held) → t.entry ≡ entry.now → slice_index_or self.old.pool.held.items at t ≡ t → at < vec_len self.old.pool.held → n < length list.old → self.old.suppressed < 4294967295 → ByPosition self.old.pool.held.items → Stands (D.meaning self.old.domain) self.old → Comes (D.meaning self.old.domain) (turns.suppress (view self.old) t) n list.old list.new result self.new }
     {
         let line = line_of(entry, Manner::Suppressed, 0, &[Range::point(0); PLACES]);
         self.suppressed = self.suppressed.saturating_add(1);

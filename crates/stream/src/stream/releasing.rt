@@ -18,7 +18,7 @@ impl<D: Domain> Stream<D> {
     // The records of the cluster are written part by part, from place `n` on, and it closes. Answers the place behind them.
     pub(crate) fn release(&mut self, label: u32, list: &mut [Line], n: usize) -> usize
         ensures terms { SameTerms self.old self.new }
-        ensures comes { open_refusal (D.Domain.meaning self.old.domain) self.old.settings ≡ None → Between (D.Domain.meaning self.old.domain) self.old.settings (view self.old) → Stands (D.Domain.meaning self.old.domain) self.old → In (clustering.clusters self.old.pool.held.items) label → self.old.settings.k ≤ clustering.size (clustering.members label self.old.pool.held.items) → n + length self.old.pool.held.items ≤ length list.old → Comes (D.Domain.meaning self.old.domain) (releases.release (D.Domain.meaning self.old.domain) self.old.settings (view self.old) label) n list.old list.new result self.new }
+        ensures comes { open_refusal (D.meaning self.old.domain) self.old.settings ≡ None → Between (D.meaning self.old.domain) self.old.settings (view self.old) → Stands (D.meaning self.old.domain) self.old → In (clustering.clusters self.old.pool.held.items) label → self.old.settings.k ≤ clustering.size (clustering.members label self.old.pool.held.items) → n + length self.old.pool.held.items ≤ length list.old → Comes (D.meaning self.old.domain) (releases.release (D.meaning self.old.domain) self.old.settings (view self.old) label) n list.old list.new result self.new }
     {
         let Some(at) = find(self.pool.clusters.as_slice(), label) else {
             return n;

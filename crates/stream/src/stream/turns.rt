@@ -1,6 +1,6 @@
 // A record's turn.
 ghost use Rattle.std.specs.Prelude.{◌≡◌, ℕ, ◌+◌, ◌<◌, ◌≤◌, List, length, Some, None, vec_len, slice_index_or};
-ghost use Rattle.std.specs.List.{AllByRecursion as All};
+ghost use Rattle.std.specs.List.{AllByRecursion};
 ghost use Rattle.rules.specs.declared.Held.{Held};
 ghost use Rattle.rules.specs.Around.{Fit};
 ghost use Rattle.rules.specs.Choosing.{In};
@@ -47,7 +47,7 @@ impl<D: Domain> Stream<D> {
 
     // How many owners the cluster has.
     fn size_of(&self, label: u32) -> usize
-        ensures { Stands (D.Domain.meaning self.now.domain) self.now → result ≡ clustering.size (clustering.members label self.now.pool.held.items) }
+        ensures { Stands (D.meaning self.now.domain) self.now → result ≡ clustering.size (clustering.members label self.now.pool.held.items) }
     {
         match find(self.pool.clusters.as_slice(), label) {
             Some(at) => self.pool.clusters[at].size,
@@ -57,7 +57,7 @@ impl<D: Domain> Stream<D> {
 
     // Whether more than half of the open clusters have more owners than the record's, which has `size`.
     fn is_outnumbered(&self, turn: &Held, size: usize) -> bool
-        ensures { Stands (D.Domain.meaning self.now.domain) self.now → size ≡ clustering.size (clustering.members turn.now.label self.now.pool.held.items) → result ≡ turns.is_outnumbered (view self.now) turn.now }
+        ensures { Stands (D.meaning self.now.domain) self.now → size ≡ clustering.size (clustering.members turn.now.label self.now.pool.held.items) → result ≡ turns.is_outnumbered (view self.now) turn.now }
     {
         let larger = larger(self.pool.clusters.as_slice(), size);
         larger > self.pool.clusters.len() - larger
@@ -65,7 +65,7 @@ impl<D: Domain> Stream<D> {
 
     // The first rule that fits.
     fn rule(&self, turn: &Held) -> Rule
-        ensures { Stands (D.Domain.meaning self.now.domain) self.now → rule_of result ≡ turns.rule (D.Domain.meaning self.now.domain) self.now.settings (view self.now) turn.now }
+        ensures { Stands (D.meaning self.now.domain) self.now → rule_of result ≡ turns.rule (D.meaning self.now.domain) self.now.settings (view self.now) turn.now }
     {
         let size = self.size_of(turn.label);
         if size >= self.crowd() {
@@ -86,7 +86,7 @@ impl<D: Domain> Stream<D> {
 
     // The next merger of a cluster that names fewer than a crowd.
     fn next_merger(&self, label: u32) -> Option<Merger>
-        ensures { Stands (D.Domain.meaning self.now.domain) self.now → All (λ h. Fit (D.Domain.meaning self.now.domain) h.entry) self.now.pool.held.items → In (clustering.clusters self.now.pool.held.items) label → NextMerger (D.Domain.meaning self.now.domain) self.now label result }
+        ensures { Stands (D.meaning self.now.domain) self.now → AllByRecursion (λ h. Fit (D.meaning self.now.domain) h.entry) self.now.pool.held.items → In (clustering.clusters self.now.pool.held.items) label → NextMerger (D.meaning self.now.domain) self.now label result }
     {
         if self.size_of(label) >= self.crowd() {
             return None;
@@ -104,7 +104,7 @@ impl<D: Domain> Stream<D> {
     // One round of taking over: whether there was a merger.
     fn take_over(&mut self, label: u32) -> bool
         ensures terms { SameTerms self.old self.new }
-        ensures round { Stands (D.Domain.meaning self.old.domain) self.old → All (λ h. Fit (D.Domain.meaning self.old.domain) h.entry) self.old.pool.held.items → In (clustering.clusters self.old.pool.held.items) label → Round (D.Domain.meaning self.old.domain) label result self.old self.new }
+        ensures round { Stands (D.meaning self.old.domain) self.old → AllByRecursion (λ h. Fit (D.meaning self.old.domain) h.entry) self.old.pool.held.items → In (clustering.clusters self.old.pool.held.items) label → Round (D.meaning self.old.domain) label result self.old self.new }
     {
         match self.next_merger(label) {
             Some(merger) => {
@@ -118,7 +118,7 @@ impl<D: Domain> Stream<D> {
     // Takes over clusters until the cluster names a crowd. Each round closes one, so as many rounds as records are enough.
     fn grow(&mut self, label: u32)
         ensures terms { SameTerms self.old self.new }
-        ensures grown { Stands (D.Domain.meaning self.old.domain) self.old → All (λ h. Fit (D.Domain.meaning self.old.domain) h.entry) self.old.pool.held.items → In (clustering.clusters self.old.pool.held.items) label → Holds (D.Domain.meaning self.old.domain) (turns.grown (D.Domain.meaning self.old.domain) self.old.settings (view self.old) label) self.new }
+        ensures grown { Stands (D.meaning self.old.domain) self.old → AllByRecursion (λ h. Fit (D.meaning self.old.domain) h.entry) self.old.pool.held.items → In (clustering.clusters self.old.pool.held.items) label → Holds (D.meaning self.old.domain) (turns.grown (D.meaning self.old.domain) self.old.settings (view self.old) label) self.new }
     {
         for _ in 0..self.pool.held.len() {
             if !self.take_over(label) {
@@ -132,7 +132,7 @@ impl<D: Domain> Stream<D> {
     pub(crate) fn turn(&mut self, at: usize, list: &mut [Line], n: usize) -> usize
         requires { at < vec_len self.old.pool.held }
         ensures terms { SameTerms self.old self.new }
-        ensures comes { (t : Held) → slice_index_or self.old.pool.held.items at t ≡ t → open_refusal (D.Domain.meaning self.old.domain) self.old.settings ≡ None → Between (D.Domain.meaning self.old.domain) self.old.settings (view self.old) → Stands (D.Domain.meaning self.old.domain) self.old → n + length self.old.pool.held.items ≤ length list.old → Comes (D.Domain.meaning self.old.domain) (turns.turn (D.Domain.meaning self.old.domain) self.old.settings (view self.old) t) n list.old list.new result self.new }
+        ensures comes { (t : Held) → slice_index_or self.old.pool.held.items at t ≡ t → open_refusal (D.meaning self.old.domain) self.old.settings ≡ None → Between (D.meaning self.old.domain) self.old.settings (view self.old) → Stands (D.meaning self.old.domain) self.old → n + length self.old.pool.held.items ≤ length list.old → Comes (D.meaning self.old.domain) (turns.turn (D.meaning self.old.domain) self.old.settings (view self.old) t) n list.old list.new result self.new }
     {
         let turn = self.pool.held[at];
         match self.rule(&turn) {

@@ -9,8 +9,8 @@ pub loop-place-preserved : goal.loop-place-preserved
 loop-place-preserved g c =
     let m = g.D.Domain.meaning c.args.d.now in
     let n = c.loop-place.place in
-    offers_more m c.args.mean c.args.values.now c.args.clusters.now n c.loss-with-loss.result c.saturating-sub.result c.is-at-least.result c.consider-choice.result
-    c.loss-with-loss.ensures.value c.saturating-sub.ensures c.is-at-least.ensures
+    offers_more m c.args.mean c.args.values.now c.args.clusters.now n c.loss_with-loss.result c.saturating_sub.result c.is_at_least.result c.consider-choice.result
+    c.loss_with-loss.ensures.value c.saturating_sub.ensures c.is_at_least.ensures
     (c.consider-choice.ensures (offers m c.args.mean c.args.values.now c.args.clusters.now n) c.loop-place.invariant)
 
 pub returns : goal.returns

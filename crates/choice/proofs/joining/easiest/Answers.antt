@@ -17,7 +17,7 @@ loop-place-preserved g c =
       | then-place-at w ↦
           w.best-is
           ∙ w.lower-best.ensures (rises m cs at n) c.loop-place.invariant
-          ∙ ap (λ k. least (λ x. x.raise) (rises m cs at n ++ record { place = n; raise = k } ∷ [])) (w.saturating-sub-raise.ensures ∙ ap (λ k. k - (row cs at).loss) w.loss-joined-loss.ensures)
+          ∙ ap (λ k. least (λ x. x.raise) (rises m cs at n ++ record { place = n; raise = k } ∷ [])) (w.saturating_sub-raise.ensures ∙ ap (λ k. k - (row cs at).loss) w.loss_joined-loss.ensures)
           ∙ ap (least (λ x. x.raise)) (sym (rises_more m cs at n w.if-place-at.true))
       | else-place-at w ↦ w.best-is ∙ c.loop-place.invariant ∙ ap (least (λ x. x.raise)) (sym (rises_same m cs at n w.if-place-at.false))
     ]

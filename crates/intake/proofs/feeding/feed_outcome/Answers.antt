@@ -6,13 +6,13 @@ use Rattle.intake.specs.Faults.{refusal_diagnostic}
 use Rattle.intake.proofs.Passing.{of_line}
 use Rattle.intake.proofs.feeding.feed_outcome.Goals as goal
 
-pub returns-in-err-written : goal.returns-in-err-written
-returns-in-err-written g c =
-    let p = err_from_is_err_and c.from-residual-in-err-written.result c.from-residual-in-err-written.ensures.1 in
-    let f = c.in-err-written.field-0.0 in
-    let x = c.in-ok-report.report in
-    let fed = c.in-err-written.ensures in
-    rw (p.1, p.2, c.in-ok-report.was)
+pub returns-in_err-written : goal.returns-in_err-written
+returns-in_err-written g c =
+    let p = err_from_is_err_and c.from_residual-in_err-written.result c.from_residual-in_err-written.ensures.1 in
+    let f = c.in_err-written.field-0.0 in
+    let x = c.in_ok-report.report in
+    let fed = c.in_err-written.ensures in
+    rw (p.1, p.2, c.in_ok-report.was)
     (record {
       reason = ap (option_map refusal_diagnostic) fed.refusal;
       whole = tt;

@@ -9,8 +9,8 @@ returns c =
     let l = c.args.label in
     let hs = vec_items c.args.self.now.held in
     record {
-      held = c.drop-members.ensures.items;
-      clusters = c.drop-row.ensures.items;
-      faithful = λ m f. c.drop-row.ensures.items ∙ ap (other_rows l) f ∙ sym (table_closed m l hs) ∙ ap (table m) (sym c.drop-members.ensures.items);
-      memory = record { for_held = c.drop-members.ensures.memory; for_clusters = c.drop-row.ensures.memory };
+      held = c.drop_members.ensures.items;
+      clusters = c.drop_row.ensures.items;
+      faithful = λ m f. c.drop_row.ensures.items ∙ ap (other_rows l) f ∙ sym (table_closed m l hs) ∙ ap (table m) (sym c.drop_members.ensures.items);
+      memory = record { for_held = c.drop_members.ensures.memory; for_clusters = c.drop_row.ensures.memory };
     }

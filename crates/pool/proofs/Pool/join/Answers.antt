@@ -21,17 +21,17 @@ returns-then-len-capacity g c =
     let few : length hs < 2 ^ 64 - 1 = omega arith in
     let yes : can_join p at ≡ true = and_from _ _ (lt-ltb at (vec_len p.clusters) (omega arith)) (lt-ltb (vec_len p.held) (vec_capacity p.held) (omega arith)) in
     let label = label_at_is cs at c.index.result.now within c.index.ensures in
-    let known = c.has-owner-new-owner.ensures ∙ ap (λ ks. listed (owner e) (owners (members c.index.result.now.label ks))) c.as-slice.ensures.value ∙ ap (λ l. listed (owner e) (owners (members l hs))) label in
+    let known = c.has_owner-new_owner.ensures ∙ ap (λ ks. listed (owner e) (owners (members c.index.result.now.label ks))) c.as_slice.ensures.value ∙ ap (λ l. listed (owner e) (owners (members l hs))) label in
     let new = not (listed (owner e) (owners (members (label_at cs at) hs))) in
-    let lent = c.index-mut.result.now in
-    let read = get_or_read cs at lent within c.index-mut.ensures.value in
-    let row = c.take-record.ensures ∙ ap (λ b. with_record m (values e) (not b) lent) known in
-    let held = c.push-reserved.ensures.items ∙ ap (λ l. held_also l e hs) label in
+    let lent = c.index_mut.result.now in
+    let read = get_or_read cs at lent within c.index_mut.ensures.value in
+    let row = c.take_record.ensures ∙ ap (λ b. with_record m (values e) (not b) lent) known in
+    let held = c.push_reserved.ensures.items ∙ ap (λ l. held_also l e hs) label in
     record {
       held = held ∙ sym (cond-true _ _ hs yes);
       clusters = λ x. ap (set cs at) (row ∙ ap (with_record m (values e) new) (read x)) ∙ sym (cond-true _ _ cs yes);
       faithful = λ f. ap (set cs at) (row ∙ ap (with_record m (values e) new) (read lent)) ∙ joined_table m hs cs at lent e new f within few refl ∙ ap (table m) (sym held);
-      memory = record { for_held = c.push-reserved.ensures.capacity; for_clusters = refl };
+      memory = record { for_held = c.push_reserved.ensures.capacity; for_clusters = refl };
     }
 
 pub returns-else-at-len : goal.returns-else-at-len

@@ -24,18 +24,18 @@ returns-then-at-other g c =
     let second : j < length xs = omega arith in
     let yes : are_two p i j ≡ true = and_from _ _ (lt-ltb i (vec_len p.clusters) (omega arith)) (and_from _ _ (lt-ltb j (vec_len p.clusters) (omega arith)) (ap not (ne_eqb i j c.if-at-other.true))) in
     let held = c.relabel.ensures.items in
-    let count = c.count-owners.ensures.value ∙ ap (λ ks. size (members x.label ks)) (c.as-slice.ensures.value ∙ held) in
-    let b = c.join-boxes-bounds.ensures.value in
+    let count = c.count_owners.ensures.value ∙ ap (λ ks. size (members x.label ks)) (c.as_slice.ensures.value ∙ held) in
+    let b = c.join_boxes-bounds.ensures.value in
     let loss = c.box_loss.ensures.value ∙ ap (box_loss m) b in
-    let row : record { label = x.label; size = c.count-owners.result; loss = c.box_loss.result; bounds = c.join-boxes-bounds.result } ≡ union m hs x y =
+    let row : record { label = x.label; size = c.count_owners.result; loss = c.box_loss.result; bounds = c.join_boxes-bounds.result } ≡ union m hs x y =
     λ k. record { label = x.label; size = count k; loss = loss k; bounds = b k } in
-    let rows = c.drop-row.ensures.items ∙ ap (other_rows y.label) (c.put-row.ensures.items ∙ ap (λ r. map (replaced r) xs) row) in
+    let rows = c.drop_row.ensures.items ∙ ap (other_rows y.label) (c.put_row.ensures.items ∙ ap (λ r. map (replaced r) xs) row) in
     let at = c.index.ensures in
     let at' = c.index-then-at-other.ensures in
     record {
       held = held ∙ ap (λ l. merged l y.label hs) (label_at_is xs i x first at) ∙ ap (λ l. merged (label_at xs i) l hs) (label_at_is xs j y second at') ∙ sym (cond-true _ _ hs yes);
-      same-records = ap records held ∙ merged_records x.label y.label hs;
+      same_records = ap records held ∙ merged_records x.label y.label hs;
       clusters = λ z. rows ∙ ap (λ t. taken_over m hs t y xs) (get_or_read xs i x first at z) ∙ ap (λ t. taken_over m hs (get_or xs i z) t xs) (get_or_read xs j y second at' z) ∙ sym (cond-true _ _ xs yes);
       faithful = λ a f. rows ∙ taken_over_table m hs xs f i j x y first second c.if-at-other.true at at' a ∙ ap (table m) (sym held);
-      memory = record { for_held = c.relabel.ensures.memory; for_clusters = c.drop-row.ensures.memory ∙ c.put-row.ensures.memory };
+      memory = record { for_held = c.relabel.ensures.memory; for_clusters = c.drop_row.ensures.memory ∙ c.put_row.ensures.memory };
     }

@@ -9,8 +9,8 @@ loop-i-preserved c =
     let inv = c.loop-i.invariant in
     let within : c.loop-i.i < length (vec_items c.loop-i.held) = omega (arith, inv.0.long) in
     elim c.if-h-label.branch [
-      | then-h-label w ↦ (rw (w.held_is, w.k-is) (FiltersInPlace-more_set inv.0 within (ap not (ne_eqb _ _ w.if-h-label.true)) c.index-h.ensures), ap vec_capacity w.held_is ∙ inv.1)
-      | else-h-label w ↦ (rw (w.held_is, w.k-is) (FiltersInPlace-more_no inv.0 within (ap not (eq-eqb _ _ w.if-h-label.false)) c.index-h.ensures), ap vec_capacity w.held_is ∙ inv.1)
+      | then-h-label w ↦ (rw (w.held-is, w.k-is) (FiltersInPlace-more_set inv.0 within (ap not (ne_eqb _ _ w.if-h-label.true)) c.index-h.ensures), ap vec_capacity w.held-is ∙ inv.1)
+      | else-h-label w ↦ (rw (w.held-is, w.k-is) (FiltersInPlace-more_no inv.0 within (ap not (eq-eqb _ _ w.if-h-label.false)) c.index-h.ensures), ap vec_capacity w.held-is ∙ inv.1)
     ]
 
 pub returns : goal.returns

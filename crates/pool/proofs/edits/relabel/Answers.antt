@@ -16,14 +16,14 @@ loop-i-preserved c =
     let within : i < length xs = omega (arith, c.len-i-end.ensures) in
     elim c.if-h-from.branch [
       | then-h-from w ↦ (
-        ap vec_items w.held_is ∙ over_put f xs ys i c.index-h.result.now _ within inv.0 c.index-h.ensures (cond-true _ _ _ (eq-eqb _ _ w.if-h-from.true)),
-        ap (λ v. length (vec_items v)) w.held_is ∙ length-set ys i _ ∙ inv.1,
-        ap vec_capacity w.held_is ∙ inv.2,
+        ap vec_items w.held-is ∙ over_put f xs ys i c.index-h.result.now _ within inv.0 c.index-h.ensures (cond-true _ _ _ (eq-eqb _ _ w.if-h-from.true)),
+        ap (λ v. length (vec_items v)) w.held-is ∙ length-set ys i _ ∙ inv.1,
+        ap vec_capacity w.held-is ∙ inv.2,
       )
       | else-h-from w ↦ (
-        ap vec_items w.held_is ∙ over_left f xs ys i c.index-h.result.now within inv.0 c.index-h.ensures (cond-false _ _ _ (ne_eqb _ _ w.if-h-from.false)),
-        ap (λ v. length (vec_items v)) w.held_is ∙ inv.1,
-        ap vec_capacity w.held_is ∙ inv.2,
+        ap vec_items w.held-is ∙ over_left f xs ys i c.index-h.result.now within inv.0 c.index-h.ensures (cond-false _ _ _ (ne_eqb _ _ w.if-h-from.false)),
+        ap (λ v. length (vec_items v)) w.held-is ∙ inv.1,
+        ap vec_capacity w.held-is ∙ inv.2,
       )
     ]
 

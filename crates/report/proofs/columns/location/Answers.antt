@@ -5,14 +5,14 @@ use Rattle.rfc4180.specs.Told.{field_text}
 use Rattle.report.proofs.Starts.{start_more, start_within}
 use Rattle.report.proofs.columns.location.Goals as goal
 
-pub overflow-add-byte : goal.overflow-add-byte
-overflow-add-byte c =
+pub overflow_add-byte : goal.overflow_add-byte
+overflow_add-byte c =
     let within = c.requires.within in
     let one = start_more c.args.fields.now c.loop-j.j c.size.result _ (omega arith) c.size.ensures in
     omega (arith, one, c.loop-j.invariant, start_within c.args.fields.now (c.loop-j.j + 1), c.requires.fits)
 
-pub overflow-add-byte-in-loop-j : goal.overflow-add-byte-in-loop-j
-overflow-add-byte-in-loop-j c =
+pub overflow_add-byte-in-loop-j : goal.overflow_add-byte-in-loop-j
+overflow_add-byte-in-loop-j c =
     let within = c.requires.within in
     let one = start_more c.args.fields.now c.loop-j.j c.size.result _ (omega arith) c.size.ensures in
     omega (arith, one, c.loop-j.invariant, start_within c.args.fields.now (c.loop-j.j + 1), c.requires.fits)

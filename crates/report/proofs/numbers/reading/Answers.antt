@@ -3,4 +3,4 @@ use Rattle.report.proofs.Digits.{behind_minus}
 use Rattle.report.proofs.numbers.reading.Goals as goal
 
 pub returns-in-45 : goal.returns-in-45
-returns-in-45 c = c.below-zero.ensures ∙ sym (behind_minus c.args.text.now (omega (arith, ltb-false)) (omega (arith, eqb-true)))
+returns-in-45 c = c.below_zero.ensures ∙ sym (behind_minus c.args.text.now (omega (arith, ltb-false)) (omega (arith, eqb-true)))

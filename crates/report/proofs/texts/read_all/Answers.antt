@@ -11,20 +11,20 @@ loop-outcome-init c =
     (begun c.args.text.now c.args.width c.begin-reader.result c.begin-reader.ensures)
 
 pub loop-outcome-smaller : goal.loop-outcome-smaller
-loop-outcome-smaller c = falls c.loop-outcome.reader c.next-line.new.self c.in-Some.outcome c.in-Some.ensures.answer c.in-Some.ensures.behind
+loop-outcome-smaller c = falls c.loop-outcome.reader c.next_line.new.self c.in-Some.outcome c.in-Some.ensures.answer c.in-Some.ensures.behind
 
 pub loop-outcome-preserved : goal.loop-outcome-preserved
 loop-outcome-preserved c =
-    subst (λ l. Sofar c.args.text.now c.begin-reader.result.width l c.next-line.new.self) (sym c.in-ok-push.ensures.items)
-    (one_more c.loop-outcome.invariant c.in-Some.outcome c.next-line.new.self c.in-Some.ensures.answer c.in-Some.ensures.behind)
+    subst (λ l. Sofar c.args.text.now c.begin-reader.result.width l c.next_line.new.self) (sym c.in_ok-push.ensures.items)
+    (one_more c.loop-outcome.invariant c.in-Some.outcome c.next_line.new.self c.in-Some.ensures.answer c.in-Some.ensures.behind)
 
-pub returns-in-err-push : goal.returns-in-err-push
-returns-in-err-push c =
-    record { outcomes = IfOk-from_err c.from-residual.result _ c.from-residual.ensures.0; whole = whole c.args.width.count c.args.text.now }
+pub returns-in_err-push : goal.returns-in_err-push
+returns-in_err-push c =
+    record { outcomes = IfOk-from_err c.from_residual.result _ c.from_residual.ensures.0; whole = whole c.args.width.count c.args.text.now }
 
 pub returns : goal.returns
 returns c =
     record {
-      outcomes = done c.loop-outcome.invariant c.in-default.ensures.answer ∙ ap (λ w. outcomes w.count c.args.text.now) c.begin-reader.ensures.width;
+      outcomes = done c.loop-outcome.invariant c.in_default.ensures.answer ∙ ap (λ w. outcomes w.count c.args.text.now) c.begin-reader.ensures.width;
       whole = whole c.args.width.count c.args.text.now;
     }

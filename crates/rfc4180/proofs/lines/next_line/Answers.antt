@@ -6,7 +6,7 @@ use Rattle.rfc4180.proofs.LineSteps.{drop_clipped, line_end_here, line_end_later
 use Rattle.rfc4180.proofs.Damages.{resumes}
 use Rattle.rfc4180.specs.Laws.{Resumes}
 use Rattle.rfc4180.proofs.lines.next_line.Goals as goal
-use Rattle.rfc4180.proofs.lines.next_line.Goals.{then-rest-lt2, else-rest-lt2+in-13·+in-default·, else-rest-lt2+in-default·}
+use Rattle.rfc4180.proofs.lines.next_line.Goals.{then-rest-lt2, else-rest-lt2+in-13+in_default-1, else-rest-lt2+in_default-1}
 
 pub loop-rest-init : goal.loop-rest-init
 loop-rest-init c =
@@ -33,9 +33,9 @@ pub loop-rest-preserved : goal.loop-rest-preserved
 loop-rest-preserved c =
     let later =
     line_end_later c.loop-rest.rest.now (omega (arith, ltb-false)) (λ two cr nl.
-    elim c.in-len1-up·.branch [
+    elim c.in-len1-up-1.branch [
       | then-rest-lt2 w ↦ omega (arith, ltb-true)
-      | else-rest-lt2+in-13·+in-default· w ↦ omega (arith, eqb_apart)
-      | else-rest-lt2+in-default· w ↦ omega (arith, eqb_apart)
+      | else-rest-lt2+in-13+in_default-1 w ↦ omega (arith, eqb_apart)
+      | else-rest-lt2+in_default-1 w ↦ omega (arith, eqb_apart)
     ]) in
     (later ∙ c.loop-rest.invariant.0, simp (length-take, length-drop) (omega arith))

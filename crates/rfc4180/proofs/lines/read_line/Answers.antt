@@ -11,34 +11,34 @@ loop-field-init c =
     subst (λ b. Sofar c.args.text.now c.args.place c.args.number c.args.fields.now (record { line = c.args.number; column = 1; byte = b }) c.args.fields.now)
     (sym c.min.ensures) (start c.args.text.now c.args.place c.args.number c.args.fields.now)
 
-pub returns-in-err-field : goal.returns-in-err-field
-returns-in-err-field c =
-    let p = err_from_is_err_and c.from-residual.result c.from-residual.ensures.1 in
-    let q = read_faulty c.loop-field.at _ c.in-err-field.field-0.0 c.in-err-field.ensures.told in
+pub returns-in_err-field : goal.returns-in_err-field
+returns-in_err-field c =
+    let p = err_from_is_err_and c.from_residual.result c.from_residual.ensures.1 in
+    let q = read_faulty c.loop-field.at _ c.in_err-field.field-0.0 c.in_err-field.ensures.told in
     let a = at_fault c.loop-field.invariant q.0 q.1 q.2 in
     record { agrees = agrees (drop c.args.place c.args.text.now); answer = p.1 ∙ ap Err (p.2 ∙ q.3) ∙ a.answer; fields = a.filled }
 
-pub behind-comma-at-requires : goal.behind-comma-at-requires
-behind-comma-at-requires c =
-    let size = fits c.loop-field.invariant c.in-ok-field.field _ _ c.in-ok-field.ensures.told c.put.ensures (ap (λ n. c.loop-field.at.byte + n) c.size.ensures) (sym c.in-Comma.ensures) in
+pub behind_comma-at-requires : goal.behind_comma-at-requires
+behind_comma-at-requires c =
+    let size = fits c.loop-field.invariant c.in_ok-field.field _ _ c.in_ok-field.ensures.told c.put.ensures (ap (λ n. c.loop-field.at.byte + n) c.size.ensures) (sym c.in-Comma.ensures) in
     (omega arith, omega arith)
 
 pub loop-field-smaller : goal.loop-field-smaller
 loop-field-smaller c =
-    let size = fits c.loop-field.invariant c.in-ok-field.field _ _ c.in-ok-field.ensures.told c.put.ensures (ap (λ n. c.loop-field.at.byte + n) c.size.ensures) (sym c.in-Comma.ensures) in
-    omega (arith, ap (λ l. l.byte) c.behind-comma-at.ensures)
+    let size = fits c.loop-field.invariant c.in_ok-field.field _ _ c.in_ok-field.ensures.told c.put.ensures (ap (λ n. c.loop-field.at.byte + n) c.size.ensures) (sym c.in-Comma.ensures) in
+    omega (arith, ap (λ l. l.byte) c.behind_comma-at.ensures)
 
 pub loop-field-preserved : goal.loop-field-preserved
 loop-field-preserved c =
-    subst (λ l. Sofar c.args.text.now c.args.place c.args.number c.args.fields.now l c.put.new.fields) (sym c.behind-comma-at.ensures)
-    (behind_comma c.loop-field.invariant c.in-ok-field.field _ _ c.in-ok-field.ensures.told c.put.ensures (ap (λ n. c.loop-field.at.byte + n) c.size.ensures) (sym c.in-Comma.ensures))
+    subst (λ l. Sofar c.args.text.now c.args.place c.args.number c.args.fields.now l c.put.new.fields) (sym c.behind_comma-at.ensures)
+    (behind_comma c.loop-field.invariant c.in_ok-field.field _ _ c.in_ok-field.ensures.told c.put.ensures (ap (λ n. c.loop-field.at.byte + n) c.size.ensures) (sym c.in-Comma.ensures))
 
 pub returns-in-LineEnd : goal.returns-in-LineEnd
 returns-in-LineEnd c =
-    let a = before_line_end c.loop-field.invariant c.in-ok-field.field _ _ c.in-ok-field.ensures.told c.put.ensures (ap (λ n. c.loop-field.at.byte + n) c.size.ensures) (omega (arith, c.in-ok-field.ensures.within, c.size.ensures)) (sym c.in-LineEnd.ensures) in
+    let a = before_line_end c.loop-field.invariant c.in_ok-field.field _ _ c.in_ok-field.ensures.told c.put.ensures (ap (λ n. c.loop-field.at.byte + n) c.size.ensures) (omega (arith, c.in_ok-field.ensures.within, c.size.ensures)) (sym c.in-LineEnd.ensures) in
     record { agrees = agrees (drop c.args.place c.args.text.now); answer = a.answer; fields = a.filled }
 
 pub returns-in-TextEnd : goal.returns-in-TextEnd
 returns-in-TextEnd c =
-    let a = before_text_end c.loop-field.invariant c.in-ok-field.field _ _ c.in-ok-field.ensures.told c.put.ensures (ap (λ n. c.loop-field.at.byte + n) c.size.ensures) (omega (arith, c.in-ok-field.ensures.within, c.size.ensures)) (sym c.in-TextEnd.ensures) in
+    let a = before_text_end c.loop-field.invariant c.in_ok-field.field _ _ c.in_ok-field.ensures.told c.put.ensures (ap (λ n. c.loop-field.at.byte + n) c.size.ensures) (omega (arith, c.in_ok-field.ensures.within, c.size.ensures)) (sym c.in-TextEnd.ensures) in
     record { agrees = agrees (drop c.args.place c.args.text.now); answer = a.answer; fields = a.filled }

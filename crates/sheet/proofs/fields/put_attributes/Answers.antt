@@ -5,16 +5,16 @@ use Rattle.sheet.specs.Rows.{attribute_field}
 use Rattle.sheet.proofs.Steps.{attributes_more, attributes_size_more, attributes_front, holds_as}
 use Rattle.sheet.proofs.fields.put_attributes.Goals as goal
 
-pub put-attribute-comma-requires : goal.put-attribute-comma-requires
-put-attribute-comma-requires c =
+pub put_attribute-comma-requires : goal.put_attribute-comma-requires
+put_attribute-comma-requires c =
     let f = attribute_field c.args.manner in
     let i = c.loop-range.range-index in
     let more = attributes_size_more f c.args.ranges.now i (record { low = 0; high = 0 }) (omega arith) in
     let front = attributes_front f c.args.ranges.now (i + 1) in
     omega (arith, more, front)
 
-pub put-byte-next-requires : goal.put-byte-next-requires
-put-byte-next-requires c =
+pub put_byte-next-requires : goal.put_byte-next-requires
+put_byte-next-requires c =
     let f = attribute_field c.args.manner in
     let i = c.loop-range.range-index in
     let more = attributes_size_more f c.args.ranges.now i (record { low = 0; high = 0 }) (omega arith) in
@@ -34,7 +34,7 @@ loop-range-preserved c =
     ∙ append_assoc bytes (with_commas (map f (take i xs))) (written (f x) ++ 44 ∷ []) ∙ ap (λ l. bytes ++ l) (sym more) in (
       omega (arith, size),
       λ before bytes w.
-          holds_as (chain bytes) (c.put-byte-next.ensures.after before _ (c.put-attribute-comma.ensures.after before _ (c.loop-range.invariant.1 before bytes w))),
+          holds_as (chain bytes) (c.put_byte-next.ensures.after before _ (c.put_attribute-comma.ensures.after before _ (c.loop-range.invariant.1 before bytes w))),
     )
 
 pub returns : goal.returns

@@ -4,23 +4,23 @@ use Rattle.sheet.specs.Rows.{row_bytes}
 use Rattle.sheet.proofs.Steps.{row_long, row_whole, holds_as, nothing_held}
 use Rattle.sheet.proofs.rows.put_row.Goals as goal
 
-pub put-attributes-reading-requires : goal.put-attributes-reading-requires
-put-attributes-reading-requires c =
+pub put_attributes-reading-requires : goal.put_attributes-reading-requires
+put_attributes-reading-requires c =
     let same : to_z w32 (of_z w32 c.args.line.now.reading) ≡ c.args.line.now.reading = search rules in
     omega (arith, row_long c.args.width c.args.line.now _ same)
 
-pub put-reading-end-requires : goal.put-reading-end-requires
-put-reading-end-requires c =
+pub put_reading-end-requires : goal.put_reading-end-requires
+put_reading-end-requires c =
     let same : to_z w32 (of_z w32 c.args.line.now.reading) ≡ c.args.line.now.reading = search rules in
     omega (arith, row_long c.args.width c.args.line.now _ same)
 
-pub put-byte-feed-requires : goal.put-byte-feed-requires
-put-byte-feed-requires c =
+pub put_byte-feed-requires : goal.put_byte-feed-requires
+put_byte-feed-requires c =
     let same : to_z w32 (of_z w32 c.args.line.now.reading) ≡ c.args.line.now.reading = search rules in
     omega (arith, row_long c.args.width c.args.line.now _ same)
 
-pub put-byte-requires : goal.put-byte-requires
-put-byte-requires c =
+pub put_byte-requires : goal.put_byte-requires
+put_byte-requires c =
     let same : to_z w32 (of_z w32 c.args.line.now.reading) ≡ c.args.line.now.reading = search rules in
     omega (arith, row_long c.args.width c.args.line.now _ same)
 
@@ -29,8 +29,8 @@ returns c =
     let line = c.args.line.now in
     let area = c.args.area.now in
     let same : to_z w32 (of_z w32 line.reading) ≡ line.reading = search rules in
-    let all : Holds area (row_bytes c.args.width line) c.put-byte.result c.put-byte.new.area =
+    let all : Holds area (row_bytes c.args.width line) c.put_byte.result c.put_byte.new.area =
     holds_as (row_whole c.args.width line _ same)
-    (c.put-byte.ensures.after area _ (c.put-byte-feed.ensures.after area _ (c.put-reading-end.ensures.after area _
-    (c.put-attributes-reading.ensures.after area [] (nothing_held area))))) in
+    (c.put_byte.ensures.after area _ (c.put_byte-feed.ensures.after area _ (c.put_reading-end.ensures.after area _
+    (c.put_attributes-reading.ensures.after area [] (nothing_held area))))) in
     all.whole ∙ ap (λ n. row_bytes c.args.width line ++ drop n area) (sym all.here)

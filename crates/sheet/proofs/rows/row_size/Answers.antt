@@ -1,5 +1,5 @@
 use Rattle.std.proofs.Common.{◌≡◌, take, subst, arith, w32, SFits, to_z, of_z, rules}
-use Rattle.std.specs.List.{AllByRecursion as All}
+use Rattle.std.specs.List.{AllByRecursion}
 use Rattle.sheet.specs.Shown.{Small}
 use Rattle.sheet.proofs.Numbers.{row_shown, mag_small}
 use Rattle.sheet.proofs.Steps.{row_long, less_none}
@@ -13,5 +13,5 @@ returns c =
     record {
       value = omega (arith, row_long c.args.width line _ same);
       bound = omega arith;
-      shown = row_shown c.args.width line (subst (λ n. All Small (take n line.ranges)) (less_none c.args.width) c.attributes-size.ensures.small) (mag_small line.reading fit);
+      shown = row_shown c.args.width line (subst (λ n. AllByRecursion Small (take n line.ranges)) (less_none c.args.width) c.attributes_size.ensures.small) (mag_small line.reading fit);
     }

@@ -5,7 +5,7 @@ use Rattle.rules.specs.Clusters.{box_of}
 use Rattle.split.specs.Parted.{marked}
 use Rattle.split.proofs.Blanks.{no_held}
 use Rattle.split.proofs.Marked.{marked_takes, marked_passes, marked_all}
-use Rattle.split.proofs.boxes.part_of.Goals.{then-is-of, else-is-of}
+use Rattle.split.proofs.boxes.part_of.Goals.{then-is_of, else-is_of}
 use Rattle.split.proofs.boxes.part_of.Goals as goal
 
 pub loop-i-preserved : goal.loop-i-preserved
@@ -18,16 +18,16 @@ loop-i-preserved g c =
     let so = marked j (take i xs) (take i hs) in
     let q : i < length hs = c.loop-i-test.true in
     let p : i < length xs = omega arith in
-    elim c.if-is-of.branch [
-      | then-is-of w ↦
-          let more = marked_takes j xs hs i None no_held p q (sym c.is-of.ensures ∙ w.if-is-of.true) in (
-            w.bounds-is ∙ w.with-one-bounds.ensures so c.loop-i.invariant.1 c.loop-i.invariant.0 ∙ ap (box_of m) (sym more),
-            omega (arith, ap length more, length_push so (get_or hs i no_held).entry, w.count_is),
-            omega (arith, w.count_is),
+    elim c.if-is_of.branch [
+      | then-is_of w ↦
+          let more = marked_takes j xs hs i None no_held p q (sym c.is_of.ensures ∙ w.if-is_of.true) in (
+            w.bounds-is ∙ w.with_one-bounds.ensures so c.loop-i.invariant.1 c.loop-i.invariant.0 ∙ ap (box_of m) (sym more),
+            omega (arith, ap length more, length_push so (get_or hs i no_held).entry, w.count-is),
+            omega (arith, w.count-is),
           )
-      | else-is-of w ↦
-          let same = marked_passes j xs hs i None no_held p q (sym c.is-of.ensures ∙ w.if-is-of.false) in
-          (w.bounds-is ∙ c.loop-i.invariant.0 ∙ ap (box_of m) (sym same), omega (arith, ap length same, w.count_is), omega (arith, w.count_is))
+      | else-is_of w ↦
+          let same = marked_passes j xs hs i None no_held p q (sym c.is_of.ensures ∙ w.if-is_of.false) in
+          (w.bounds-is ∙ c.loop-i.invariant.0 ∙ ap (box_of m) (sym same), omega (arith, ap length same, w.count-is), omega (arith, w.count-is))
     ]
 
 pub returns : goal.returns

@@ -6,12 +6,12 @@ use Rattle.split.specs.Near.{remaining}
 use Rattle.split.proofs.Blanks.{no_face}
 use Rattle.split.proofs.making.first_remaining.Goals as goal
 
-pub returns-then-lacks-part : goal.returns-then-lacks-part
-returns-then-lacks-part c =
+pub returns-then-lacks_part : goal.returns-then-lacks_part
+returns-then-lacks_part c =
     let fs = c.args.faces.now in
     let i = c.loop-face.face-index in
     let rest = filter lacks_part (drop (i + 1) fs) in
-    ap (λ b. head (map (λ f. f.stand_in) (cond b (get_or fs i no_face ∷ rest) rest))) c.if-lacks-part.ensures
+    ap (λ b. head (map (λ f. f.stand_in) (cond b (get_or fs i no_face ∷ rest) rest))) c.if-lacks_part.ensures
     ∙ sym (at_drop_more (λ l. head (remaining l)) fs i no_face c.loop-face-test.true) ∙ c.loop-face.invariant
 
 pub loop-face-preserved : goal.loop-face-preserved
@@ -19,7 +19,7 @@ loop-face-preserved c =
     let fs = c.args.faces.now in
     let i = c.loop-face.face-index in
     let rest = filter lacks_part (drop (i + 1) fs) in
-    ap (λ b. head (map (λ f. f.stand_in) (cond b (get_or fs i no_face ∷ rest) rest))) c.if-lacks-part.ensures
+    ap (λ b. head (map (λ f. f.stand_in) (cond b (get_or fs i no_face ∷ rest) rest))) c.if-lacks_part.ensures
     ∙ sym (at_drop_more (λ l. head (remaining l)) fs i no_face c.loop-face-test.true) ∙ c.loop-face.invariant
 
 pub returns : goal.returns

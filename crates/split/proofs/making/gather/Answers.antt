@@ -15,17 +15,17 @@ returns-in-Some g c =
     let first : head (remaining fs) ≡ Some s = sym c.in-Some.ensures in
     let given : List Neighbour = map (neighbour m s) (others_than s (remaining fs)) in
     let items : c.items.result.now ≡ leasts rank_of n given =
-    (c.items.ensures.reads given c.offer-others.ensures.keeps).least ∙ ap (λ i. leasts rank_of i given) c.offer-others.auto.near in
+    (c.items.ensures.reads given c.offer_others.ensures.keeps).least ∙ ap (λ i. leasts rank_of i given) c.offer_others.auto.near in
     record {
       fewer = λ _. subst (λ l. length (remaining l) < length (remaining fs)) (sym c.join.ensures) (joined_fewer_by_one (names c.items.result.now) c.args.part fs s first);
       next = λ es ps p e l h. c.join.ensures ∙ gathered m n c.args.part es ps p s fs c.items.result.now e l first items h;
     }
 
-pub returns-in-default : goal.returns-in-default
-returns-in-default g c =
+pub returns-in_default : goal.returns-in_default
+returns-in_default g c =
     let m = g.D.Domain.meaning c.args.d.now in
     let fs = c.args.faces.now in
-    let none = sym c.in-default.ensures in
+    let none = sym c.in_default.ensures in
     record {
       fewer = λ l. absurd (omega (arith, l, head_none (remaining fs) none));
       next = λ es ps p e l h. absurd (no_next m (length c.args.near.now + 1) es (remaining fs) p none h);

@@ -16,13 +16,13 @@ loop-h-preserved c =
     let p = place_among fs (owner x.entry) in
     let here : c.if-h-label.place ≡ mark_among c.args.label fs x =
     elim c.if-h-label.branch [
-      | then-h-label w ↦ w.place-is ∙ w.place-of-place.ensures ∙ sym (ap (λ t. cond t p None) (eq-eqb _ _ w.if-h-label.true))
+      | then-h-label w ↦ w.place-is ∙ w.place_of-place.ensures ∙ sym (ap (λ t. cond t p None) (eq-eqb _ _ w.if-h-label.true))
       | else-h-label w ↦ w.place-is ∙ sym (ap (λ t. cond t p None) (ne_eqb _ _ w.if-h-label.false))
     ] in (
-      c.push-reserved.ensures.items ∙ ap (λ l. l ++ c.if-h-label.place ∷ []) c.loop-h.invariant.0
+      c.push_reserved.ensures.items ∙ ap (λ l. l ++ c.if-h-label.place ∷ []) c.loop-h.invariant.0
           ∙ ap (λ y. map (mark_among c.args.label fs) (take i hs) ++ y ∷ []) here ∙ sym (map_more (mark_among c.args.label fs) hs i no_held c.loop-h-test.true),
       omega arith,
-      c.push-reserved.ensures.capacity ∙ c.loop-h.invariant.2,
+      c.push_reserved.ensures.capacity ∙ c.loop-h.invariant.2,
     )
 
 pub returns : goal.returns

@@ -16,9 +16,9 @@ loop-h-preserved c =
       | then-h-label w ↦ w.place-is ∙ sym (ap (λ t. cond t (Some 0) None) (eq-eqb _ _ w.if-h-label.true))
       | else-h-label w ↦ w.place-is ∙ sym (ap (λ t. cond t (Some 0) None) (ne_eqb _ _ w.if-h-label.false))
     ] in (
-      c.push-reserved.ensures.items ∙ ap (λ l. l ++ c.if-h-label.place ∷ []) c.loop-h.invariant.0 ∙ ap (λ y. map mark (take i hs) ++ y ∷ []) here ∙ sym (map_more mark hs i no_held c.loop-h-test.true),
+      c.push_reserved.ensures.items ∙ ap (λ l. l ++ c.if-h-label.place ∷ []) c.loop-h.invariant.0 ∙ ap (λ y. map mark (take i hs) ++ y ∷ []) here ∙ sym (map_more mark hs i no_held c.loop-h-test.true),
       omega arith,
-      c.push-reserved.ensures.capacity ∙ c.loop-h.invariant.2,
+      c.push_reserved.ensures.capacity ∙ c.loop-h.invariant.2,
     )
 
 pub returns : goal.returns

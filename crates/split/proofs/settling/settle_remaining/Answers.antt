@@ -5,7 +5,7 @@ use Rattle.split.specs.Near.{remaining}
 use Rattle.split.specs.Parted.{marked, part_of}
 use Rattle.split.proofs.Blanks.{no_face}
 use Rattle.split.proofs.Leftover.{Settled, left_next, left_passes, face_stands, settled_passes, settled_goes_on, settled_ends}
-use Rattle.split.proofs.settling.settle_remaining.Goals.{then-lacks-part, else-lacks-part}
+use Rattle.split.proofs.settling.settle_remaining.Goals.{then-lacks_part, else-lacks_part}
 use Rattle.split.proofs.settling.settle_remaining.Goals as goal
 
 pub loop-face-init : goal.loop-face-init
@@ -24,18 +24,18 @@ loop-face-preserved g c = λ ps e beside apart.
     let us = map owner (remaining (drop i fs)) in
     let here = c.loop-face-test.true in
     let so = c.loop-face.invariant ps e beside apart in
-    elim c.if-lacks-part.branch [
-      | then-lacks-part w ↦
-          let r = w.settle-owner.result in
-          let xs = c.if-lacks-part.marks in
-          settled_goes_on m l hs ps left ws us x c.loop-face.marks xs c.loop-face.parts c.if-lacks-part.parts r
-          (left_next fs i no_face here (sym c.lacks_part.ensures ∙ w.if-lacks-part.true)) (face_stands fs i no_face here (members l hs) ps e)
-          w.settle-owner.ensures.least (w.marks-is ∙ w.settle-owner.ensures.marks)
-          (w.parts-is ∙ w.settle-owner.ensures.parts ∙ ap (λ z. set c.loop-face.parts r (part_of m (marked r z hs))) (sym w.marks-is)) so
-      | else-lacks-part w ↦
+    elim c.if-lacks_part.branch [
+      | then-lacks_part w ↦
+          let r = w.settle_owner.result in
+          let xs = c.if-lacks_part.marks in
+          settled_goes_on m l hs ps left ws us x c.loop-face.marks xs c.loop-face.parts c.if-lacks_part.parts r
+          (left_next fs i no_face here (sym c.lacks_part.ensures ∙ w.if-lacks_part.true)) (face_stands fs i no_face here (members l hs) ps e)
+          w.settle_owner.ensures.least (w.marks-is ∙ w.settle_owner.ensures.marks)
+          (w.parts-is ∙ w.settle_owner.ensures.parts ∙ ap (λ z. set c.loop-face.parts r (part_of m (marked r z hs))) (sym w.marks-is)) so
+      | else-lacks_part w ↦
           let passed : Settled m l hs ps left ws c.loop-face.marks c.loop-face.parts =
-          settled_passes m l hs ps left us ws c.loop-face.marks c.loop-face.parts (left_passes fs i no_face here (sym c.lacks_part.ensures ∙ w.if-lacks-part.false)) so in
-          subst (λ z. Settled m l hs ps left ws z c.if-lacks-part.parts) (sym w.marks-is) (subst (Settled m l hs ps left ws c.loop-face.marks) (sym w.parts-is) passed)
+          settled_passes m l hs ps left us ws c.loop-face.marks c.loop-face.parts (left_passes fs i no_face here (sym c.lacks_part.ensures ∙ w.if-lacks_part.false)) so in
+          subst (λ z. Settled m l hs ps left ws z c.if-lacks_part.parts) (sym w.marks-is) (subst (Settled m l hs ps left ws c.loop-face.marks) (sym w.parts-is) passed)
     ]
 
 pub returns : goal.returns

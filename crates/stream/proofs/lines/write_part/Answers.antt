@@ -23,9 +23,9 @@ loop-i-preserved c = λ e l.
     let in_marks : i < length ms = omega arith in
     let in_held : i < length hs = omega arith in
     elim c.if-says.branch [
-      | then-says w ↦ rw (w.list_is, w.n-is)
-          (part_takes number ranges j ms hs i None _ in_marks in_held c.args.from c.args.list.now c.loop-i.list _ c.loop-i.n _ w.line-of.result (sym c.says.ensures ∙ w.if-says.true) w.line-of.ensures l r c.loop-i.auto.list w.put-n.ensures.list w.put-n.ensures.behind)
-      | else-says w ↦ rw (w.list_is, w.n-is)
+      | then-says w ↦ rw (w.list-is, w.n-is)
+          (part_takes number ranges j ms hs i None _ in_marks in_held c.args.from c.args.list.now c.loop-i.list _ c.loop-i.n _ w.line_of.result (sym c.says.ensures ∙ w.if-says.true) w.line_of.ensures l r c.loop-i.auto.list w.put-n.ensures.list w.put-n.ensures.behind)
+      | else-says w ↦ rw (w.list-is, w.n-is)
           (subst (λ es. Releases number ranges es c.args.from c.args.list.now c.loop-i.list c.loop-i.n) (sym (marked_passes j ms hs i None (get_or hs i no_held) in_marks in_held (sym c.says.ensures ∙ w.if-says.false))) r)
     ]
 

@@ -16,8 +16,8 @@ loop-j-preserved c =
           let out = inv.1 m g k d given in
           let loss = priced given j l c.loop-j.ledger c.loop-j.list c.loop-j.n out _ in
           let e = entered.entered m g (given.window ∙ sym inv.0) out.kept loss (low given j l c.loop-j.ledger c.loop-j.list c.loop-j.n out) in
-          let w = c.write-part-n.ensures given.parted.long (space given j l c.loop-j.ledger c.loop-j.list c.loop-j.n out) in
-          out_more given j l c.loop-j.ledger c.loop-j.list c.loop-j.n out _ c.enter-number.new.self c.write-part-n.new.list c.enter-number.result c.write-part-n.result e entered.counted w,
+          let w = c.write_part-n.ensures given.parted.long (space given j l c.loop-j.ledger c.loop-j.list c.loop-j.n out) in
+          out_more given j l c.loop-j.ledger c.loop-j.list c.loop-j.n out _ c.enter-number.new.self c.write_part-n.new.list c.enter-number.result c.write_part-n.result e entered.counted w,
     )
 
 pub returns : goal.returns

@@ -14,12 +14,12 @@ use Rattle.stream.proofs.replays.replay_calls.Goals as goal
 abbrev no_call : Call
 no_call = Feed (record { owner = 0; values = []; reading = pos 0 })
 
-pub shape-of-list-in-err-extend-from-slice : goal.shape-of-list-in-err-extend-from-slice
-shape-of-list-in-err-extend-from-slice g c = c.make-n.auto.list ∙ c.loop-call.invariant.1
+pub shape_of-list-in_err-extend_from_slice : goal.shape_of-list-in_err-extend_from_slice
+shape_of-list-in_err-extend_from_slice g c = c.make-n.auto.list ∙ c.loop-call.invariant.1
 
-pub returns-in-err-extend-from-slice : goal.returns-in-err-extend-from-slice
-returns-in-err-extend-from-slice g c =
-    let p = err_from_is_err_and c.from-residual.result c.from-residual.ensures.1 in
+pub returns-in_err-extend_from_slice : goal.returns-in_err-extend_from_slice
+returns-in_err-extend_from_slice g c =
+    let p = err_from_is_err_and c.from_residual.result c.from_residual.ensures.1 in
     let opened = c.in-Ok.ensures in
     rw (p.1, p.2) (subst (λ x. open_refusal (g.D.Domain.meaning c.args.domain) x ≡ None) opened.settings (run_open opened.leads.run))
 
@@ -37,12 +37,12 @@ loop-call-preserved g c =
     let from_start : c.make-n.result ≡ c.make-n.result - 0 = omega arith in (
       terms.domain ∙ inv.0,
       c.make-n.auto.list ∙ room,
-      subst (λ xs. Plays m start.settings c.args.calls.now (length c.args.list.now) (c.loop-call.call-index + 1) t xs) (sym c.in-ok-extend-from-slice.ensures.items)
+      subst (λ xs. Plays m start.settings c.args.calls.now (length c.args.list.now) (c.loop-call.call-index + 1) t xs) (sym c.in_ok-extend_from_slice.ensures.items)
           (subst (λ k. Plays m start.settings c.args.calls.now (length c.args.list.now) (c.loop-call.call-index + 1) t (vec_items c.loop-call.lines ++ take k c.make-n.new.list)) from_start more),
     )
 
-pub shape-of-list : goal.shape-of-list
-shape-of-list g c = c.loop-call.invariant.1
+pub shape_of-list : goal.shape_of-list
+shape_of-list g c = c.loop-call.invariant.1
 
 pub returns : goal.returns
 returns g c =

@@ -8,5 +8,5 @@ pub returns-else-a-self-2 : goal.returns-else-a-self-2
 returns-else-a-self-2 c =
     let t = c.args.self.now in
     let a = c.args.a in
-    let v : c.has-group.result ≡ allowed (leaves_of t) (groups_of t) a = search rules in
+    let v : c.has_group.result ≡ allowed (leaves_of t) (groups_of t) a = search rules in
     record { value = v; nests = λ e b k. allowed_nested (leaves_of t) (groups_of t) t.sound a b (sym v ∙ e) k }

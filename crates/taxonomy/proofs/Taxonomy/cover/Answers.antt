@@ -19,5 +19,5 @@ returns c =
     let gs = c.deref-g-items.result.now in
     let f = narrower a b in
     let end = at_drop_all (fold f c.loop-g.best) gs c.loop-g.g-index c.loop-g-test.false in
-    let out : is_inside b a ≡ false = sym c.if-is-inside.ensures in
+    let out : is_inside b a ≡ false = sym c.if-is_inside.ensures in
     sym end ∙ c.loop-g.invariant ∙ ap (fold f (whole c.args.self.now.leaves)) c.deref-g-items.ensures.value ∙ sym (cond-false (is_inside b a) a _ out)

@@ -7,13 +7,13 @@ use Rattle.domain.specs.Boxes.{all_pass}
 use Rattle.taxonomy.specs.Groups.{nested}
 use Rattle.taxonomy.proofs.Taxonomy.nests.Goals as goal
 
-pub returns-then-not-are-nested : goal.returns-then-not-are-nested
-returns-then-not-are-nested c =
+pub returns-then-not-are_nested : goal.returns-then-not-are_nested
+returns-then-not-are_nested c =
     let gs = c.deref-g-items.result.now in
     let i = c.loop-g.g-index in
     let p : Range → Bool = λ h. nested h c.args.group in
     let more = at_drop_more (all_pass p) gs i (point 0) c.loop-g-test.true in
-    let no = and_left _ (all_pass p (drop (i + 1) gs)) (sym c.if-not-are-nested.ensures) in
+    let no = and_left _ (all_pass p (drop (i + 1) gs)) (sym c.if-not-are_nested.ensures) in
     let e = c.deref-g-items.ensures.value in
     let h = c.loop-g.invariant in
     cc
@@ -24,7 +24,7 @@ loop-g-preserved c =
     let i = c.loop-g.g-index in
     let p : Range → Bool = λ h. nested h c.args.group in
     let more = at_drop_more (all_pass p) gs i (point 0) c.loop-g-test.true in
-    let yes = ap (λ t. t && all_pass p (drop (i + 1) gs)) (sym c.if-not-are-nested.ensures) in
+    let yes = ap (λ t. t && all_pass p (drop (i + 1) gs)) (sym c.if-not-are_nested.ensures) in
     sym (more ∙ yes) ∙ c.loop-g.invariant
 
 pub returns : goal.returns

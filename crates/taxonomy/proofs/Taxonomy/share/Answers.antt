@@ -8,4 +8,4 @@ pub returns : goal.returns
 returns c =
     let t = c.args.self.now in
     let a = c.args.a in
-    λ p. c.loss.ensures ∙ ap (λ m. loss_of m 0 a) c.up-to.ensures ∙ share_in_tree (leaves_of t) (groups_of t) a p
+    λ p. c.loss.ensures ∙ ap (λ m. loss_of m 0 a) c.up_to.ensures ∙ share_in_tree (leaves_of t) (groups_of t) a p

@@ -8,9 +8,9 @@ returns-then-best-offer c = λ xs h. weigh_over xs c.args.self c.in-Some.best c.
 
 pub returns-then-best-offer-2 : goal.returns-then-best-offer-2
 returns-then-best-offer-2 c = λ xs h.
-    weigh_same xs c.args.self c.in-Some.best c.args.offer h c.in-Some.is (record { candidate = c.smaller.result; fit = c.smaller-fit.result }) c.if-best-offer-2.true
+    weigh_same xs c.args.self c.in-Some.best c.args.offer h c.in-Some.is (record { candidate = c.smaller.result; fit = c.smaller_fit.result }) c.if-best-offer-2.true
     (c.smaller.ensures (lightest xs) h.candidate)
-    (c.smaller-fit.ensures (filter (λ x. x.fits) (lightest xs)) h.fit)
+    (c.smaller_fit.ensures (filter (λ x. x.fits) (lightest xs)) h.fit)
 
 pub returns-else-best-offer-2 : goal.returns-else-best-offer-2
 returns-else-best-offer-2 c = λ xs h. weigh_under xs c.args.self c.in-Some.best c.args.offer h c.in-Some.is c.only.result (omega arith) c.only.ensures

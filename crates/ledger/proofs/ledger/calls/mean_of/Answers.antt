@@ -7,7 +7,7 @@ pub loop-loss-preserved : goal.loop-loss-preserved
 loop-loss-preserved c =
     let xs = c.args.losses.now in
     let i = c.loop-loss.loss-index in
-    (omega (arith, c.loop-loss.invariant.0, sum_by_more (λ x. x) xs i 0 c.loop-loss-test.true), omega (arith, c.loop-loss.invariant.1, c.type-inv.losses i))
+    (omega (arith, c.loop-loss.invariant.0, sum_by_more (λ x. x) xs i 0 c.loop-loss-test.true), omega (arith, c.loop-loss.invariant.1, c.type_inv.losses i))
 
 pub returns : goal.returns
 returns c =

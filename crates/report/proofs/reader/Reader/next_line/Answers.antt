@@ -15,7 +15,7 @@ returns-then-self c =
         text = refl;
         width = refl;
         lines = omega (arith, s.lines);
-        place = omega (arith, s.size-is);
+        place = omega (arith, s.size_is);
         unread = s.rest;
       };
     }

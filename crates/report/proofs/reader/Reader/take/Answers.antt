@@ -10,22 +10,22 @@ use Rattle.report.proofs.reader.Reader.take.Goals as goal
 pub returns-then-line-wanted : goal.returns-then-line-wanted
 returns-then-line-wanted c =
     let self = c.args.self.now in
-    let told = c.in-ok-line.ensures in
-    let w = was_cut _ _ _ (read_line (drop self.place self.text.now)) c.in-ok-line.line told.answer in
+    let told = c.in_ok-line.ensures in
+    let w = was_cut _ _ _ (read_line (drop self.place self.text.now)) c.in_ok-line.line told.answer in
     let wanted : c.count-wanted.result ≡ self.width.count = c.count-wanted.ensures in
     record {
       answer =
-          ap (λ k. Err (FieldCount (record { line = self.lines + 1; column = k + 1; byte = self.place }))) (c.min.ensures ∙ ap (λ n. Prim.Native.Nat.min c.in-ok-line.line.fields (n + 2)) wanted)
+          ap (λ k. Err (FieldCount (record { line = self.lines + 1; column = k + 1; byte = self.place }))) (c.min.ensures ∙ ap (λ n. Prim.Native.Nat.min c.in_ok-line.line.fields (n + 2)) wanted)
           ∙ another_count w self.width.count (self.lines + 1) self.place (λ e. c.if-line-wanted.true (e ∙ ap (λ n. n + 2) (sym wanted)));
       behind = told.behind;
     }
 
-pub report-of-requires : goal.report-of-requires
-report-of-requires c =
+pub report_of-requires : goal.report_of-requires
+report_of-requires c =
     let self = c.args.self.now in
-    let told = c.in-ok-line.ensures in
+    let told = c.in_ok-line.ensures in
     let xs = drop self.place self.text.now in
-    let w = was_cut _ _ _ (read_line xs) c.in-ok-line.line told.answer in
+    let w = was_cut _ _ _ (read_line xs) c.in_ok-line.line told.answer in
     let wanted : c.count-wanted.result ≡ self.width.count = c.count-wanted.ensures in
     let few = self.width.few in
     let eight : length c.lex.new.fields ≡ 8 = omega arith in
@@ -44,9 +44,9 @@ report-of-requires c =
 pub returns : goal.returns
 returns c =
     let self = c.args.self.now in
-    let told = c.in-ok-line.ensures in
+    let told = c.in_ok-line.ensures in
     let xs = drop self.place self.text.now in
-    let w = was_cut _ _ _ (read_line xs) c.in-ok-line.line told.answer in
+    let w = was_cut _ _ _ (read_line xs) c.in_ok-line.line told.answer in
     let wanted : c.count-wanted.result ≡ self.width.count = c.count-wanted.ensures in
     let few = self.width.few in
     let eight : length c.lex.new.fields ≡ 8 = omega arith in
@@ -54,7 +54,7 @@ returns c =
     let same : c.count-wanted.result + 2 - 2 ≡ self.width.count = omega arith in
     record {
       answer =
-          c.report-of.ensures
+          c.report_of.ensures
           ∙ ap (λ l. of_columns (self.lines + 1) self.place l (columns (suc (c.count-wanted.result + 2 - 2)) l)) shown
           ∙ ap (λ n. of_columns (self.lines + 1) self.place (fields_of (read_line xs)) (columns (suc n) (fields_of (read_line xs)))) same
           ∙ right_count w self.width.count (self.lines + 1) self.place (omega arith);

@@ -19,11 +19,11 @@ returns g c =
     let m = g.D.Domain.meaning s.domain in
     let terms = c.drain.ensures.terms in
     record {
-      refusal = c.in-default.ensures;
+      refusal = c.in_default.ensures;
       unchanged = λ e. absurd (true≢false e);
       terms = record { domain = terms.domain; settings = terms.settings };
       goes_on = λ h leads.
           let kept = leads.stands in
-          closed_goes m s h leads c.args.list.now c.drain.new.list c.drain.result c.drain.new.self _ refl refl terms.settings (sym c.in-default.ensures)
+          closed_goes m s h leads c.args.list.now c.drain.new.list c.drain.result c.drain.new.self _ refl refl terms.settings (sym c.in_default.ensures)
           (record { table = kept.table; kept = kept.kept; window = kept.window; room = kept.room }) c.drain.ensures.drained;
     }

@@ -20,11 +20,11 @@ returns g c =
     let terms = c.arrive.ensures.terms in
     let terms' = c.serve_due.ensures.terms in
     record {
-      refusal = c.in-default.ensures;
+      refusal = c.in_default.ensures;
       unchanged = λ e. absurd (true≢false e);
       terms = record { domain = terms'.domain ∙ terms.domain; settings = terms'.settings ∙ terms.settings };
       goes_on = λ h leads.
-          let none = sym c.in-default.ensures in
+          let none = sym c.in_default.ensures in
           fed_goes m s h leads c.args.list.now c.serve_due.new.list c.serve_due.result c.serve_due.new.self c.args.fed (g.D.Domain.meaning s'.domain) s' none (ap g.D.Domain.meaning terms.domain) terms terms'
           (c.arrive.ensures.arrives h (length c.args.list.now) leads none) c.serve_due.ensures.serves;
     }

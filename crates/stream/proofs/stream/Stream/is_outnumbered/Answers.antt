@@ -14,10 +14,10 @@ returns g c = λ stands size.
     let s = c.args.self.now in
     let m = g.D.Domain.meaning s.domain in
     let hs = vec_items s.pool.held in
-    let cs = c.as-slice.result.now in
+    let cs = c.as_slice.result.now in
     let label = c.args.turn.now.label in
-    let table = c.as-slice.ensures.value ∙ stands.table in
-    let n : c.len.result ≡ length (clusters hs) = c.len.ensures ∙ sym c.as-slice.ensures.len ∙ length_table m hs cs table in
+    let table = c.as_slice.ensures.value ∙ stands.table in
+    let n : c.len.result ≡ length (clusters hs) = c.len.ensures ∙ sym c.as_slice.ensures.len ∙ length_table m hs cs table in
     let l : c.larger-larger.result ≡ larger label hs = c.larger-larger.ensures.rule m hs label table size in
-    twice c.len.result c.larger-larger.result (omega (arith, c.larger-larger.ensures.few, c.len.ensures, c.as-slice.ensures.len))
+    twice c.len.result c.larger-larger.result (omega (arith, c.larger-larger.ensures.few, c.len.ensures, c.as_slice.ensures.len))
     ∙ ap (λ k. ltb k (2 * c.larger-larger.result)) n ∙ ap (λ k. ltb (length (clusters hs)) (2 * k)) l

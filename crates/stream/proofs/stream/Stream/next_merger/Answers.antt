@@ -7,21 +7,21 @@ use Rattle.rules.proofs.Choices.{clusters_law}
 use Rattle.pool.specs.Tables.{label_at}
 use Rattle.stream.proofs.stream.Stream.next_merger.Goals as goal
 
-pub returns-in-default : goal.returns-in-default
-returns-in-default g c = λ stands fit is_open.
+pub returns-in_default : goal.returns-in_default
+returns-in_default g c = λ stands fit is_open.
     let s = c.args.self.now in
     let m = g.D.Domain.meaning s.domain in
     let hs = vec_items s.pool.held in
     let r = (clusters_law hs).some_held c.args.label is_open in
-    absurd (false≢true (c.in-default.ensures.held m hs r.0 (c.as-slice-clusters.ensures.value ∙ stands.table) r.1 r.2))
+    absurd (false≢true (c.in_default.ensures.held m hs r.0 (c.as_slice-clusters.ensures.value ∙ stands.table) r.1 r.2))
 
 pub returns-in-Some-easiest : goal.returns-in-Some-easiest
 returns-in-Some-easiest g c = λ stands fit is_open.
     let s = c.args.self.now in
     let m = g.D.Domain.meaning s.domain in
     let hs = vec_items s.pool.held in
-    let same = c.as-slice-clusters.ensures.value in
-    let long = c.as-slice-clusters.ensures.len in
+    let same = c.as_slice-clusters.ensures.value in
+    let long = c.as_slice-clusters.ensures.len in
     let found = c.in-Some.ensures.first in
     let other = c.in-Some-easiest.ensures.other in
     let i = c.in-Some.taker in
@@ -31,7 +31,7 @@ returns-in-Some-easiest g c = λ stands fit is_open.
     let two : ltb j n ≡ true = lt-ltb j n (omega (arith, other.0, long)) in
     let apart : not (eqb i j) ≡ true = not_from_false (eqb i j) (ne_eqb i j (λ e. other.1 (sym e))) in
     let label = ap (λ ys. label_at ys i) (sym same) ∙ found.labelled in (
-      lt-leb s.settings.k (size (members c.args.label hs)) (omega (arith, c.size-of.ensures stands, c.crowd.ensures, c.if-size-of-crowd.false)),
+      lt-leb s.settings.k (size (members c.args.label hs)) (omega (arith, c.size_of.ensures stands, c.crowd.ensures, c.if-size_of-crowd.false)),
       and_from (ltb i n) _ one (and_from (ltb j n) _ two apart),
       label,
       ap (λ l. turns.easiest m l hs) (sym found.labelled) ∙ c.in-Some-easiest.ensures.rule hs (same ∙ stands.table) fit found.within ∙ ap (λ ys. Some (label_at ys j)) same,
@@ -43,4 +43,4 @@ returns-in-None g c = λ stands fit is_open.
     let m = g.D.Domain.meaning s.domain in
     let hs = vec_items s.pool.held in
     let found = c.in-Some.ensures.first in
-    inr (ap (λ l. turns.easiest m l hs) (sym found.labelled) ∙ c.in-None.ensures.rule hs (c.as-slice-clusters.ensures.value ∙ stands.table) fit found.within)
+    inr (ap (λ l. turns.easiest m l hs) (sym found.labelled) ∙ c.in-None.ensures.rule hs (c.as_slice-clusters.ensures.value ∙ stands.table) fit found.within)

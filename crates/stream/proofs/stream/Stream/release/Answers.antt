@@ -20,15 +20,15 @@ use Rattle.stream.proofs.Arriving.{roomy_after}
 use Rattle.stream.proofs.Outputs.{few_parts, parted_at}
 use Rattle.stream.proofs.stream.Stream.release.Goals as goal
 
-pub returns-in-default : goal.returns-in-default
-returns-in-default g c = record {
+pub returns-in_default : goal.returns-in_default
+returns-in_default g c = record {
   terms = record { domain = refl; settings = refl };
   comes = λ taken between stands is_open large room.
       let s = c.args.self.now in
       let m = g.D.Domain.meaning s.domain in
       let hs = vec_items s.pool.held in
       let r = (clusters_law hs).some_held c.args.label is_open in
-      absurd (false≢true (c.in-default.ensures.held m hs r.0 (c.as-slice.ensures.value ∙ stands.table) r.1 r.2));
+      absurd (false≢true (c.in_default.ensures.held m hs r.0 (c.as_slice.ensures.value ∙ stands.table) r.1 r.2));
 }
 
 pub returns : goal.returns
@@ -44,30 +44,30 @@ returns g c = record {
       let limits = lawful m s.settings taken in
       let found = c.in-Some.ensures.first in
       let at = c.in-Some.at in
-      let same = c.as-slice.ensures.value in
+      let same = c.as_slice.ensures.value in
       let x : Cluster = c.index.result.now in
       let labelled : label_at xs at ≡ label = ap (λ ys. label_at ys at) (sym same) ∙ found.labelled in
       let row : x ≡ cluster_of m hs label = c.index.ensures ∙ row_at m hs xs at x stands.table (omega (arith, found.within, ap length same)) ∙ ap (cluster_of m hs) labelled in
       let own : x.label ≡ label = ap (λ (y : Cluster). y.label) row in
-      let second = c.as-slice-2.ensures.value in
-      let third = c.as-slice-3.ensures.value in
-      let one = c.part.ensures.parted (row ∙ ap (λ (hs : List Held). cluster_of m hs label) (sym second) ∙ ap (cluster_of m c.as-slice-2.result.now) (sym own)) (omega (arith, ap length second, between.few, limits.most_delay)) limits.crowd limits.most_crowd in
-      let parted : Parted m k label c.as-slice-3.result.now c.marks.result.now c.parts.result.now = parted_at m k own (second ∙ sym third) (sym c.marks.ensures) (sym c.parts.ensures) one in
-      let es = members label c.as-slice-3.result.now in
+      let second = c.as_slice-2.ensures.value in
+      let third = c.as_slice-3.ensures.value in
+      let one = c.part.ensures.parted (row ∙ ap (λ (hs : List Held). cluster_of m hs label) (sym second) ∙ ap (cluster_of m c.as_slice-2.result.now) (sym own)) (omega (arith, ap length second, between.few, limits.most_delay)) limits.crowd limits.most_crowd in
+      let parted : Parted m k label c.as_slice-3.result.now c.marks.result.now c.parts.result.now = parted_at m k own (second ∙ sym third) (sym c.marks.ensures) (sym c.parts.ensures) one in
+      let es = members label c.as_slice-3.result.now in
       let own_members : es ≡ members label hs = ap (members label) third in
       let few : length c.parts.result.now ≤ length es = omega (arith, ap length parted.told, length-map (parts m k es) (part_of m), few_parts m k es (omega (arith, limits.crowd)) (subst (λ ys. k ≤ size ys) (sym own_members) large)) in
       let fewer : length es ≤ length hs = omega (arith, ap length own_members, members_le label hs) in
-      let out = c.release-parts-behind.ensures.out m s.settings k label (omega (arith, limits.crowd)) parted (sym stands.window) stands.kept (omega (arith, few, fewer, between.numbers, limits.most_delay)) (omega (arith, fewer, room)) in
-      let shown = subst (λ ys. PartsOut m s.settings (parts m k ys) s.ledger c.release-parts-behind.new.ledger c.args.n c.args.list.now c.release-parts-behind.new.list c.release-parts-behind.result) own_members out in
+      let out = c.release_parts-behind.ensures.out m s.settings k label (omega (arith, limits.crowd)) parted (sym stands.window) stands.kept (omega (arith, few, fewer, between.numbers, limits.most_delay)) (omega (arith, fewer, room)) in
+      let shown = subst (λ ys. PartsOut m s.settings (parts m k ys) s.ledger c.release_parts-behind.new.ledger c.args.n c.args.list.now c.release_parts-behind.new.list c.release_parts-behind.result) own_members out in
       record {
         holds = record {
-          state = ap (λ ys. record { held = ys; boxes = ledger_boxes c.release-parts-behind.new.ledger; accepted = s.accepted; suppressed = s.suppressed; closed = s.closed }) c.close-cluster.ensures.held
+          state = ap (λ ys. record { held = ys; boxes = ledger_boxes c.release_parts-behind.new.ledger; accepted = s.accepted; suppressed = s.suppressed; closed = s.closed }) c.close_cluster.ensures.held
               ∙ ap (λ b. record { held = others label hs; boxes = b; accepted = s.accepted; suppressed = s.suppressed; closed = s.closed }) shown.boxes;
           stands = record {
-            table = c.close-cluster.ensures.faithful m stands.table;
+            table = c.close_cluster.ensures.faithful m stands.table;
             kept = shown.kept;
-            window = c.release-parts-behind.ensures.window ∙ stands.window;
-            room = roomy_after s.pool c.close-cluster.new.self c.close-cluster.ensures.memory stands.room;
+            window = c.release_parts-behind.ensures.window ∙ stands.window;
+            room = roomy_after s.pool c.close_cluster.new.self c.close_cluster.ensures.memory stands.room;
           };
         };
         lines = shown.lines;

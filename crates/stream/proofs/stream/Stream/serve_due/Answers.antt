@@ -9,8 +9,8 @@ returns-in-Some g c = record {
   serves = λ taken between stands room.
       let s = c.args.self.now in
       serves_one (g.D.Domain.meaning s.domain) s c.args.list.now taken between stands room c.in-Some.at c.turn.new.list c.turn.result c.turn.new.self
-      (omega (arith, c.in-Some.ensures.within, ap length c.as-slice.ensures.value))
-      (c.in-Some.ensures.first (view s) (sym c.as-slice.ensures.value) refl between.by_position)
+      (omega (arith, c.in-Some.ensures.within, ap length c.as_slice.ensures.value))
+      (c.in-Some.ensures.first (view s) (sym c.as_slice.ensures.value) refl between.by_position)
       (λ t is. c.turn.ensures.comes t is taken between stands (omega (arith, room)));
 }
 
@@ -19,5 +19,5 @@ returns-in-None g c = record {
   terms = record { domain = refl; settings = refl };
   serves = λ taken between stands room.
       let s = c.args.self.now in
-      serves_none (g.D.Domain.meaning s.domain) s c.args.list.now taken between stands room (c.in-None.ensures.first (view s) (sym c.as-slice.ensures.value) refl between.by_position);
+      serves_none (g.D.Domain.meaning s.domain) s c.args.list.now taken between stands room (c.in-None.ensures.first (view s) (sym c.as_slice.ensures.value) refl between.by_position);
 }

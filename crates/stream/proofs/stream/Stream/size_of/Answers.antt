@@ -12,13 +12,13 @@ returns-in-Some g c = λ s.
     let hs = vec_items c.args.self.now.pool.held in
     let xs = vec_items c.args.self.now.pool.clusters in
     let found = c.in-Some.ensures.first in
-    let l : c.in-Some.at < length xs = omega (arith, found.within, ap length c.as-slice.ensures.value) in
+    let l : c.in-Some.at < length xs = omega (arith, found.within, ap length c.as_slice.ensures.value) in
     let row = row_at m hs xs c.in-Some.at c.index.result.now s.table l in
     ap (λ x. x.size) (c.index.ensures ∙ row)
-    ∙ ap (λ l. size (members l hs)) (ap (λ ys. label_at ys c.in-Some.at) (sym c.as-slice.ensures.value) ∙ found.labelled)
+    ∙ ap (λ l. size (members l hs)) (ap (λ ys. label_at ys c.in-Some.at) (sym c.as_slice.ensures.value) ∙ found.labelled)
 
 pub returns-in-None : goal.returns-in-None
 returns-in-None g c = λ s.
     let m = g.D.Domain.meaning c.args.self.now.domain in
     let hs = vec_items c.args.self.now.pool.held in
-    no_size c.args.label hs (λ h i e. false≢true (c.in-None.ensures.held m hs h (c.as-slice.ensures.value ∙ s.table) i e))
+    no_size c.args.label hs (λ h i e. false≢true (c.in-None.ensures.held m hs h (c.as_slice.ensures.value ∙ s.table) i e))
