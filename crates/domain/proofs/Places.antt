@@ -1,16 +1,16 @@
 -- Boxes place by place, and their laws from those of each attribute.
-use Rattle.std.proofs.Common.{◌≡◌, ℕ, zero, suc, ◌+◌, ◌*◌, ◌<◌, ◌≤◌, min, Bool, true, false, cond, ◌&&◌, ◌||◌, ltb, leb, List, [], ◌∷◌, map, length, get_or, sum, sym, refl, ap, ◌∙◌, subst, ⊎_elim, arith}
+use Rattle.std.proofs.Common.{◌≡◌, ℕ, zero, suc, ◌+◌, ◌<◌, ◌≤◌, Bool, true, false, cond, ◌&&◌, ltb, leb, List, [], ◌∷◌, map, length, sum, sym, refl, ap, ◌∙◌, subst, ⊎_elim, arith}
 use Rattle.std.specs.List.{range_with_len, AllByRecursion}
 use Rattle.std.proofs.lemmas.List.FromFn.{length-range_with_len, length-map-range_with_len, fill_by_all, get_or-range_with_len, get_or-map-range_with_len, sum_by-map-range_with_len_more}
-use Rattle.std.proofs.lemmas.List.{same_lists, get_or_default, get_or_past}
+use Rattle.std.proofs.lemmas.List.{get_or_past}
 use Rattle.std.proofs.ByRecursion.{All-get_or, All-from_get_or}
 use Rattle.std.proofs.lemmas.List.Sums.{sum_by-cons}
-use Rattle.std.proofs.lemmas.Bool.{ltb-true, lt-ltb, le-ltb, leb-true, le-leb, and_parts, and_from, and_left, or_cases, or_right, cases_Bool, cases_lt, cond-true, cond-false, cond_both}
+use Rattle.std.proofs.lemmas.Bool.{ltb-true, lt-ltb, le-ltb, leb-true, le-leb, and_parts, and_from, and_left, or_cases, cases_Bool, cases_lt, cond-true, cond-false, cond_both}
 use Rattle.domain.specs.declared.range.Range.{Range}
 use Rattle.domain.specs.Ranges.{point, within, Inside}
 use Rattle.domain.specs.Meaning.{Meaning, full_loss, places, known, join_of, loss_of, Least}
 use Rattle.domain.specs.Boxes.{range_at, value_at, known_count, all_pass, point_box, join_boxes, box_loss, covers}
-use Rattle.domain.specs.BoxLaws.{Allowed, Admitted, InsideBox, LeastBox, LeastCover, LeastWider, CoversBoth, Box, BoxSemilattice}
+use Rattle.domain.specs.BoxLaws.{Allowed, Admitted, InsideBox, LeastBox, LeastCover, LeastWider, CoversBoth, BoxSemilattice}
 use Rattle.domain.specs.JoinsLemmas.{inside_trans, semilattice}
 
 -- ---- one attribute

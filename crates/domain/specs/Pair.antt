@@ -1,5 +1,5 @@
 -- The pair of two domains: the attributes of the left one, then those of the right one. Assumes nothing.
-use Rattle.std.specs.Prelude.{ℕ, ◌+◌, ◌-◌, cond, nat_lt}
+use Rattle.std.specs.Prelude.{◌+◌, ◌-◌, cond, nat_lt}
 use Rattle.std.proofs.Common.{le_trans, le-add_right}
 use Rattle.domain.specs.Meaning.{Meaning}
 

@@ -1,9 +1,9 @@
 -- How many lines were taken. Assumes nothing.
-use Rattle.std.proofs.Common.{◌≡◌, ℕ, ◌+◌, ◌<◌, Bool, true, false, cond, List, [], ◌∷◌, map, length, get_or, take, is_ok, Ok, Err, filter, Result, sym, refl, ap, ◌∙◌, subst, arith}
+use Rattle.std.proofs.Common.{◌≡◌, ℕ, ◌+◌, ◌<◌, Bool, cond, List, [], ◌∷◌, map, length, get_or, take, is_ok, Ok, Err, filter, Result, sym, refl, ap, ◌∙◌}
 use Rattle.std.proofs.lemmas.List.Filters.{length-filter_more}
 use Rattle.report.specs.declared.columns.Report.{Report}
 use Rattle.report.specs.declared.faults.LineFault.{LineFault}
-use Rattle.report.specs.Lines.{Outcome, told}
+use Rattle.report.specs.Lines.{told}
 
 abbrev Line : Type 0
 Line = Result Report LineFault

@@ -1,11 +1,11 @@
 -- What is left behind a line: a shorter part of the text, from some place to its end. Assumes nothing.
-use Rattle.std.proofs.Common.{◌≡◌, ℕ, zero, suc, ◌+◌, ◌-◌, ◌<◌, ◌≤◌, Bool, true, false, cond, ◌&&◌, eqb, List, [], ◌∷◌, ◌++◌, length, take, drop, sym, refl, ap, ◌∙◌, subst, ⊎_elim, append_assoc, arith, length-append, length-drop}
+use Rattle.std.proofs.Common.{◌≡◌, ℕ, ◌+◌, ◌-◌, ◌<◌, ◌≤◌, false, ◌&&◌, eqb, List, [], ◌∷◌, ◌++◌, length, drop, sym, refl, ap, ◌∙◌, subst, ⊎_elim, append_assoc, arith, length-append, length-drop}
 use Rattle.std.proofs.lemmas.List.{drop_at, drop-drop, drop_all}
 use Rattle.std.proofs.lemmas.Bool.{cases_Bool, cond-true, cond-false}
 use Rattle.rfc4180.specs.Grammar.{FieldText, written, with_commas, Derives}
 use Rattle.rfc4180.specs.Laws as laws
 use Rattle.rfc4180.specs.Faults.{faulty_field}
-use Rattle.rfc4180.specs.Reading.{begins_with_lf, Wrong, not_allowed, unclosed, LineRead, cut, damaged, read_line, behind_line_end}
+use Rattle.rfc4180.specs.Reading.{Wrong, not_allowed, unclosed, LineRead, cut, damaged, read_line, behind_line_end}
 use Rattle.rfc4180.specs.Told.{text_fault, field_behind, line_answer}
 use Rattle.rfc4180.proofs.Damages.{agrees}
 use Rattle.rfc4180.proofs.LineSteps.{behind_is}

@@ -1,11 +1,10 @@
 -- From the reading of a line to what becomes of it. Assumes nothing.
-use Rattle.std.proofs.Common.{◌≡◌, ℕ, suc, ◌+◌, ◌-◌, ◌<◌, ◌≤◌, eqb, List, [], ◌∷◌, ◌++◌, map, length, take, drop, Some, None, Ok, Err, Option, Result, sym, refl, ap, ◌∙◌, subst, arith, length-append}
+use Rattle.std.proofs.Common.{◌≡◌, ℕ, suc, ◌+◌, ◌-◌, ◌<◌, ◌≤◌, eqb, List, [], ◌∷◌, ◌++◌, map, length, take, Some, None, Ok, Err, Result, sym, refl, ap, ◌∙◌, subst, arith, length-append}
 use Rattle.std.proofs.lemmas.List.{length_push, take_all}
 use Rattle.std.proofs.lemmas.Bool.{cond-true, cond-false, eq-eqb, ne_eqb}
-use Rattle.rfc4180.specs.declared.faults.TextFault.{TextFault}
 use Rattle.rfc4180.specs.declared.fields.Field.{Field}
 use Rattle.rfc4180.specs.declared.lines.Line.{Line}
-use Rattle.rfc4180.specs.Grammar.{FieldText, written, with_commas, Derives}
+use Rattle.rfc4180.specs.Grammar.{FieldText, written, with_commas}
 use Rattle.rfc4180.specs.Laws as laws
 use Rattle.rfc4180.specs.Reading.{LineRead, cut, damaged, read_line}
 use Rattle.rfc4180.specs.Told.{field_text, fields_of, line_answer, Filled}
@@ -13,9 +12,9 @@ use Rattle.rfc4180.proofs.Damages.{agrees}
 use Rattle.rfc4180.proofs.Progress.{size_push}
 use Rattle.report.specs.declared.columns.Report.{Report}
 use Rattle.report.specs.declared.faults.LineFault.{LineFault}
-use Rattle.report.specs.declared.faults.LineFault.TheVariants.{Text, FieldCount}
+use Rattle.report.specs.declared.faults.LineFault.TheVariants.{FieldCount}
 use Rattle.report.specs.Columns.{columns, of_columns, miscounted, of_fields}
-use Rattle.report.specs.Lines.{Outcome, told, of_reading, outcome}
+use Rattle.report.specs.Lines.{told, of_reading}
 use Rattle.report.specs.Readers.{next}
 
 -- a line was read, with so many fields

@@ -1,5 +1,5 @@
 -- How far the columns of a line have been read. Assumes nothing.
-use Rattle.std.proofs.Common.{◌≡◌, ℕ, zero, suc, ◌+◌, ◌-◌, ◌<◌, ◌≤◌, List, [], ◌∷◌, ◌++◌, map, length, get_or, take, drop, set, replicate, ℤ, Some, None, Ok, Err, Option, Result, sym, refl, ap, ◌∙◌, subst, append_assoc, append-nil, add-zero, add-one, arith, length-append, drop-cons}
+use Rattle.std.proofs.Common.{◌≡◌, ℕ, zero, suc, ◌+◌, ◌-◌, ◌<◌, ◌≤◌, List, [], ◌∷◌, ◌++◌, map, length, get_or, take, drop, set, replicate, ℤ, Some, None, Ok, Err, Option, Result, sym, refl, ap, ◌∙◌, append_assoc, append-nil, add-zero, add-one, arith, length-append, drop-cons}
 use native.Mathlib.Nat.{sub-zero}
 use Rattle.std.proofs.lemmas.List.{length-map, length_push, set_at, take_at, length-replicate, replicate-append-replicate, get_or-map}
 use Rattle.rfc4180.specs.declared.faults.Location.{Location}
@@ -8,7 +8,6 @@ use Rattle.rfc4180.specs.declared.fields.Field.TheVariants.{Plain, Quoted}
 use Rattle.rfc4180.specs.Grammar.{FieldText, plainly}
 use Rattle.rfc4180.specs.Told.{content, field_text, field_behind}
 use Rattle.report.specs.Columns.{inside_of, Columns, and_before, number_column, reading_column, columns, of_columns, or_kind_fault}
-use Rattle.report.specs.declared.columns.Report.{Report}
 use Rattle.report.specs.declared.faults.LineFault.{LineFault}
 use Rattle.report.specs.declared.faults.LineFault.TheVariants.{FieldKind}
 use Rattle.report.specs.Numbers.{number_of, reading_of}

@@ -1,12 +1,12 @@
 -- How far `read_all` has come. Assumes nothing.
-use Rattle.std.proofs.Common.{◌≡◌, ℕ, ◌+◌, ◌<◌, List, [], ◌∷◌, ◌++◌, map, length, drop, Some, None, Option, Result, sym, refl, ap, ◌∙◌, subst, append_assoc, append-nil, arith}
+use Rattle.std.proofs.Common.{◌≡◌, ℕ, ◌+◌, ◌<◌, List, [], ◌∷◌, ◌++◌, map, length, drop, Some, None, Result, sym, refl, ap, ◌∙◌, append_assoc, append-nil, arith}
 use Rattle.std.proofs.lemmas.List.{map_push}
 use Rattle.report.specs.declared.columns.Report.{Report}
 use Rattle.report.specs.declared.faults.LineFault.{LineFault}
 use Rattle.report.specs.declared.reader.Reader.{Reader}
 use Rattle.report.specs.declared.width.Width.{Width}
 use Rattle.report.specs.Lines.{Outcome, told, outcome, left, size, outcomes_behind, outcomes}
-use Rattle.report.specs.Readers.{unread, told_next, next, lines_more, Begun, Behind}
+use Rattle.report.specs.Readers.{unread, next, lines_more, Begun, Behind}
 use Rattle.report.proofs.Advance.{advances}
 use Rattle.report.proofs.Wholes.{behind_more}
 

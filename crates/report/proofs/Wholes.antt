@@ -1,21 +1,18 @@
 -- A text is read line by line to its end. Assumes nothing.
-use Rattle.std.proofs.Common.{◌≡◌, ℕ, zero, suc, ◌+◌, ◌-◌, ◌<◌, ◌≤◌, Bool, true, false, cond, eqb, List, [], ◌∷◌, ◌++◌, map, length, take, drop, Ok, Err, Result, sym, refl, ap, ◌∙◌, subst, ⊎_elim, add-zero, add_assoc, zero-add, add-one, one-add, arith, length-append, take-append-drop}
+use Rattle.std.proofs.Common.{◌≡◌, ℕ, zero, suc, ◌+◌, ◌<◌, ◌≤◌, eqb, List, [], ◌∷◌, ◌++◌, map, length, take, drop, Ok, Err, Result, sym, refl, ap, ◌∙◌, subst, ⊎_elim, add-zero, add_assoc, zero-add, one-add, arith, length-append, take-append-drop}
 use Rattle.std.proofs.lemmas.List.{length-map, drop-map, length-take-le}
 use Rattle.std.proofs.lemmas.Bool.{cases_Bool, cond-true, cond-false}
-use Rattle.std.specs.List.{flat_map, AllByRecursion}
+use Rattle.std.specs.List.{AllByRecursion}
 use Rattle.rfc4180.specs.declared.faults.Layer.TheVariants as layers
-use Rattle.rfc4180.specs.declared.faults.Location.{Location}
 use Rattle.rfc4180.specs.Grammar.{FieldText, with_commas}
 use Rattle.rfc4180.specs.Reading.{Wrong, not_allowed, unclosed, LineRead, cut, damaged, read_line}
 use Rattle.rfc4180.specs.Told.{field_behind, text_fault}
-use Rattle.report.specs.declared.columns.Report.{Report}
-use Rattle.report.specs.declared.faults.LineFault.{LineFault}
 use Rattle.report.specs.declared.faults.LineFault.TheVariants.{Text, FieldCount, FieldKind}
 use Rattle.report.specs.Columns.{Columns, columns, of_columns, miscounted, of_fields}
 use Rattle.report.specs.Faults.{line_diagnostic}
 use Rattle.report.specs.Lines.{Outcome, told, of_reading, outcome, left, size, outcomes_behind, outcomes}
 use Rattle.report.specs.Whole.{first_lines, lines_of, bytes_of, moved, Whole}
-use Rattle.report.proofs.Advance.{Advances, advances}
+use Rattle.report.proofs.Advance.{advances}
 
 -- The outcome of a line only shows where it stands.
 

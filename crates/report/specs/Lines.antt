@@ -1,5 +1,5 @@
 -- What becomes of a report line, and of a whole text of them. Assumes nothing.
-use Rattle.std.specs.Prelude.{ℕ, zero, suc, ◌+◌, ◌-◌, Bool, true, false, cond, List, [], ◌∷◌, ◌++◌, length, take, drop, Some, None, Ok, Err, Option, Result}
+use Rattle.std.specs.Prelude.{ℕ, zero, suc, ◌+◌, ◌-◌, List, [], ◌∷◌, ◌++◌, length, drop, Ok, Err, Result}
 use Rattle.rfc4180.specs.declared.faults.Diagnostic.{Diagnostic}
 use Rattle.rfc4180.specs.Grammar.{with_commas}
 use Rattle.rfc4180.specs.Reading.{LineRead, cut, damaged, read_line, behind_line_end}

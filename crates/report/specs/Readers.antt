@@ -1,5 +1,5 @@
 -- What a reader answers next, and what it goes on with. Assumes nothing.
-use Rattle.std.specs.Prelude.{◌≡◌, ℕ, ◌+◌, ◌-◌, Bool, true, false, cond, List, [], ◌∷◌, length, drop, Some, None, Ok, Err, Option, Result}
+use Rattle.std.specs.Prelude.{◌≡◌, ℕ, ◌+◌, ◌-◌, List, [], ◌∷◌, length, drop, Some, None, Ok, Err, Option, Result}
 use Rattle.rfc4180.specs.declared.faults.TextFault.{TextFault}
 use Rattle.rfc4180.specs.declared.lines.Line.{Line}
 use Rattle.rfc4180.specs.Faults.{faulty_field}

@@ -1,8 +1,6 @@
 -- A text of report lines as a whole. Assumes nothing.
 use Rattle.std.specs.Prelude.{◌≡◌, ℕ, zero, suc, ◌+◌, ◌<◌, List, [], ◌∷◌, map, length, take, drop, Ok, Err}
 use Rattle.std.specs.List.{flat_map, AllByRecursion}
-use Rattle.rfc4180.specs.declared.faults.Location.{Location}
-use Rattle.report.specs.declared.columns.Report.{Report}
 use Rattle.report.specs.Lines.{Outcome, size, left, outcomes}
 
 -- the lines of a text, each with its end, or with what is lost by its damage; at most k of them

@@ -1,16 +1,15 @@
 -- The reading and the grammar agree. Assumes nothing.
-use Rattle.std.proofs.Common.{◌≡◌, ℕ, zero, suc, ◌+◌, ◌-◌, ◌<◌, ◌≤◌, Bool, true, false, cond, ◌&&◌, ◌||◌, eqb, ◌⊎◌, List, [], ◌∷◌, ◌++◌, length, get_or, take, drop, sym, refl, ap, ◌∙◌, subst, inl, inr, ⊎_elim, append_assoc, append-nil, arith, length-append, length-drop}
+use Rattle.std.proofs.Common.{◌≡◌, ℕ, zero, suc, ◌<◌, true, false, ◌&&◌, eqb, List, [], ◌∷◌, ◌++◌, length, get_or, drop, sym, refl, ap, ◌∙◌, subst, inl, inr, ⊎_elim, append_assoc, append-nil, arith, length-drop}
 use Rattle.std.proofs.lemmas.List.{drop_at, take_at}
-use Rattle.std.proofs.lemmas.Bool.{cases_Bool, cond-true, cond-false, both_ways, and_parts, or_cases, eqb-true, eqb-false, eq-eqb, ne_eqb}
+use Rattle.std.proofs.lemmas.Bool.{cases_Bool, cond-true, cond-false, both_ways, and_parts, or_cases, eqb-true, eq-eqb}
 use Rattle.std.proofs.lemmas.Bool.Decides.{nat_tests}
-use Rattle.rfc4180.specs.declared.fields.Extent.{Extent}
-use Rattle.rfc4180.specs.declared.fields.Extent.TheVariants.{Ends, Offends, Runs}
+use Rattle.rfc4180.specs.declared.fields.Extent.TheVariants.{Ends, Offends}
 use Rattle.rfc4180.specs.Grammar.{plain, inside, FieldText, plainly, quoted, Plain, Inside, empty, one, doubled, Lawful, AllLawful, written, with_commas, LineEnd, Derives}
 use Rattle.rfc4180.specs.Reading.{begins_with_lf, stops, further, plain_extent, quoted_extent, mark_extent, Wrong, FieldRead, whole, faulty, as_plain, as_quoted, read_field, LineRead, cut, damaged, before, behind_field, after_field, read_line}
 use Rattle.rfc4180.proofs.Extents.{further_none, further_further}
-use Rattle.rfc4180.proofs.FieldTells.{Stands, field_tells, Tells}
+use Rattle.rfc4180.proofs.FieldTells.{field_tells, Tells}
 use Rattle.rfc4180.proofs.LineSteps.{line_step}
-use Rattle.rfc4180.proofs.Progress.{in_front, front_cut, front_damaged}
+use Rattle.rfc4180.proofs.Progress.{in_front, front_cut}
 
 -- Lawful bytes in front only move the extent.
 

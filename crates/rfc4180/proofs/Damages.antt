@@ -1,18 +1,17 @@
 -- Why a damaged line is none. Assumes nothing.
-use Rattle.std.proofs.Common.{◌≡◌, ℕ, zero, suc, ◌+◌, ◌-◌, ◌<◌, ◌≤◌, Bool, true, false, cond, ◌&&◌, ◌||◌, eqb, ◌⊎◌, List, [], ◌∷◌, ◌++◌, length, get_or, take, drop, sym, refl, ap, ◌∙◌, subst, inl, inr, ⊎_elim, append_assoc, append-nil, add-suc, suc-add, zero-add, arith, length-append, drop-cons, take-suc}
-use Rattle.std.proofs.lemmas.List.{drop_at, take_at, take-append-le, length-take-le, get_or-append-add, drop-drop, drop-append-le}
-use Rattle.std.proofs.lemmas.Bool.{cases_Bool, cond-true, cond-false, both_ways, and_parts, or_cases, or_parts, and_cases, eqb-true, eqb-false, eq-eqb, ne_eqb}
-use Rattle.std.proofs.lemmas.Bool.Decides.{nat_tests}
+use Rattle.std.proofs.Common.{◌≡◌, ℕ, suc, ◌+◌, ◌<◌, Bool, true, false, cond, ◌&&◌, eqb, ◌⊎◌, List, [], ◌∷◌, ◌++◌, length, get_or, take, drop, sym, refl, ap, ◌∙◌, subst, inl, inr, ⊎_elim, append_assoc, append-nil, add-suc, suc-add, zero-add, arith, length-append, drop-cons, take-suc}
+use Rattle.std.proofs.lemmas.List.{drop_at, length-take-le, get_or-append-add, drop-drop}
+use Rattle.std.proofs.lemmas.Bool.{cases_Bool, cond-true, cond-false, both_ways, and_parts, or_cases, or_parts, and_cases, eqb-true, eq-eqb, ne_eqb}
 use Rattle.rfc4180.specs.declared.fields.Extent.{Extent}
 use Rattle.rfc4180.specs.declared.fields.Extent.TheVariants.{Ends, Offends, Runs}
-use Rattle.rfc4180.specs.Grammar.{plain, inside, FieldText, plainly, quoted, Plain, Inside, empty, one, doubled, Lawful, AllLawful, written, with_commas, LineEnd, Derives}
-use Rattle.rfc4180.specs.Reading.{begins_with_lf, stops, further, plain_extent, quoted_extent, mark_extent, Wrong, not_allowed, unclosed, FieldRead, whole, faulty, as_plain, as_quoted, read_field, LineRead, cut, damaged, before, after_field, read_line, behind_line_end}
+use Rattle.rfc4180.specs.Grammar.{plain, inside, FieldText, plainly, quoted, Plain, Inside, Lawful, AllLawful, written, with_commas}
+use Rattle.rfc4180.specs.Reading.{begins_with_lf, stops, further, plain_extent, quoted_extent, mark_extent, Wrong, not_allowed, unclosed, whole, faulty, as_plain, as_quoted, read_field, LineRead, cut, damaged, after_field, read_line, behind_line_end}
 use Rattle.rfc4180.specs.Laws as laws
 use Rattle.rfc4180.specs.Laws.{Resumes, behind_first, at_end}
 use Rattle.rfc4180.proofs.Tells.{PlainOffends, InsideOffends, MarkOffends}
-use Rattle.rfc4180.proofs.FieldTells.{Stands, field_tells, Tells, Spoilt, in_plain, in_quotes, behind_mark, open_end}
+use Rattle.rfc4180.proofs.FieldTells.{field_tells, Tells, Spoilt, in_plain, in_quotes, behind_mark, open_end}
 use Rattle.rfc4180.proofs.LineSteps.{line_step}
-use Rattle.rfc4180.proofs.Progress.{in_front, front_cut, front_damaged}
+use Rattle.rfc4180.proofs.Progress.{in_front, front_damaged}
 use Rattle.rfc4180.proofs.Agreement.{plain_prefix, inside_prefix, reads_plain, field_reads, front_reads, derived_reads, LineTells, line_tells, after_lf}
 
 -- a text whose first field is spoilt has no line

@@ -1,10 +1,10 @@
 -- How far a field's bytes go: one step of the definitions, at a first byte and what is behind it. Assumes nothing.
-use Rattle.std.proofs.Common.{◌≡◌, ℕ, suc, ◌+◌, ◌-◌, ◌<◌, ◌≤◌, Bool, true, false, cond, eqb, List, [], ◌∷◌, length, get_or, take, drop, sym, refl, ap, ◌∙◌, subst, add-zero, add_assoc, zero-add, arith, eq-eqb, ne_eqb}
+use Rattle.std.proofs.Common.{◌≡◌, ℕ, ◌+◌, ◌-◌, ◌<◌, Bool, true, false, cond, eqb, List, [], ◌∷◌, length, get_or, take, drop, sym, refl, ap, ◌∙◌, arith, eq-eqb, ne_eqb}
 use Rattle.std.proofs.lemmas.Slice.{first_rest}
 use Rattle.rfc4180.specs.declared.fields.Extent.{Extent}
 use Rattle.rfc4180.specs.declared.fields.Extent.TheVariants.{Ends, Offends, Runs}
 use Rattle.rfc4180.specs.Grammar.{plain, inside}
-use Rattle.rfc4180.specs.Reading.{stops, further, size, plain_extent, quoted_extent, mark_extent, read_field, as_quoted, as_plain}
+use Rattle.rfc4180.specs.Reading.{stops, further, plain_extent, quoted_extent, mark_extent, read_field, as_quoted, as_plain}
 
 abbrev pub tail : List ℕ → List ℕ
 tail xs = take (length xs - 1) (drop 1 xs)

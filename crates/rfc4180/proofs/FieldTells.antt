@@ -1,13 +1,12 @@
 -- What reading a field tells of the text at whose front it stands, and back. Assumes nothing.
-use Rattle.std.proofs.Common.{◌≡◌, ℕ, zero, suc, ◌+◌, ◌-◌, ◌<◌, ◌≤◌, Bool, true, false, cond, eqb, ◌⊎◌, List, [], ◌∷◌, ◌++◌, length, get_or, take, drop, sym, refl, ap, ◌∙◌, subst, inl, inr, ⊎_elim, append_assoc, add-one, one-add, arith, length-append, take-append-drop, drop-cons}
-use Rattle.std.proofs.lemmas.List.{length-take-le, drop_at, take_at}
-use Rattle.std.proofs.lemmas.Bool.{cases_Bool, cond-true, cond-false, eqb-true, eqb-false, eq-eqb, ne_eqb}
-use Rattle.std.proofs.lemmas.Bool.Decides.{nat_tests}
+use Rattle.std.proofs.Common.{◌≡◌, ℕ, suc, ◌≤◌, true, eqb, List, [], ◌∷◌, ◌++◌, length, get_or, take, drop, sym, refl, ap, ◌∙◌, subst, ⊎_elim, append_assoc, one-add, arith, length-append, take-append-drop, drop-cons}
+use Rattle.std.proofs.lemmas.List.{length-take-le}
+use Rattle.std.proofs.lemmas.Bool.{cases_Bool, cond-true, cond-false, eqb-true, eqb-false}
 use Rattle.rfc4180.specs.declared.fields.Extent.{Extent}
 use Rattle.rfc4180.specs.declared.fields.Extent.TheVariants.{Ends, Offends, Runs}
-use Rattle.rfc4180.specs.Grammar.{plain, inside, FieldText, plainly, quoted, Plain, Inside, empty, one, doubled, Lawful, written}
-use Rattle.rfc4180.specs.Reading.{stops, further, plain_extent, quoted_extent, mark_extent, Wrong, not_allowed, unclosed, FieldRead, whole, faulty, as_plain, as_quoted, read_field}
-use Rattle.rfc4180.proofs.Tells.{PlainTells, PlainEnds, PlainOffends, plain_tells, QuotedTells, QuotedEnds, InsideOffends, MarkOffends, quoted_tells}
+use Rattle.rfc4180.specs.Grammar.{FieldText, quoted, Inside, Lawful, written}
+use Rattle.rfc4180.specs.Reading.{stops, plain_extent, quoted_extent, Wrong, not_allowed, unclosed, FieldRead, whole, faulty, as_plain, as_quoted, read_field}
+use Rattle.rfc4180.proofs.Tells.{PlainTells, PlainOffends, plain_tells, QuotedTells, InsideOffends, MarkOffends, quoted_tells}
 
 -- a lawful field stands at the front of text, and may end there
 pub record Stands (text : List ℕ) (f : FieldText) : Type 0 where

@@ -1,11 +1,11 @@
 -- One step of reading a line, and of looking for the next one. Assumes nothing.
-use Rattle.std.proofs.Common.{◌≡◌, ℕ, zero, suc, ◌+◌, ◌-◌, ◌<◌, ◌≤◌, min, Bool, true, false, cond, ◌&&◌, eqb, List, [], ◌∷◌, ◌++◌, length, get_or, take, drop, sym, refl, ap, ◌∙◌, subst, ⊎_elim, arith, length-drop, eq-eqb, ne_eqb}
+use Rattle.std.proofs.Common.{◌≡◌, ℕ, zero, suc, ◌+◌, ◌-◌, ◌<◌, ◌≤◌, min, true, false, cond, ◌&&◌, eqb, List, [], ◌∷◌, length, get_or, take, drop, sym, refl, ap, ◌∙◌, ⊎_elim, arith, length-drop, eq-eqb}
 use native.Mathlib.Nat.{min-eq_left, min-eq_right}
 use Rattle.std.proofs.lemmas.List.{take_rest, drop_all, drop-drop}
 use Rattle.std.proofs.lemmas.Bool.{cases_lt, cases_Bool, cond-true, cond-false, and_parts, both_ways}
 use Rattle.std.proofs.lemmas.Bool.Decides.{nat_tests}
 use Rattle.rfc4180.specs.Grammar.{FieldText, written}
-use Rattle.rfc4180.specs.Reading.{begins_with_lf, behind_line_end, FieldRead, whole, faulty, LineRead, cut, damaged, before, read_field, behind_field, after_field, read_fields, read_line}
+use Rattle.rfc4180.specs.Reading.{begins_with_lf, behind_line_end, FieldRead, whole, faulty, LineRead, cut, before, read_field, behind_field, after_field, read_fields, read_line}
 
 pub drop_clipped : {X : Type 0} (n : ℕ) (xs : List X) → drop (min n (length xs)) xs ≡ drop n xs
 drop_clipped n xs =

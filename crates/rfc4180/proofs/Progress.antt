@@ -1,18 +1,17 @@
 -- How far `read_line` has come: the fields before the place that it has reached. Assumes nothing.
-use Rattle.std.proofs.Common.{◌≡◌, ℕ, zero, suc, ◌+◌, ◌-◌, ◌<◌, ◌≤◌, min, Bool, true, false, cond, ◌&&◌, eqb, List, [], ◌∷◌, ◌++◌, map, length, get_or, take, drop, set, Ok, Err, Result, sym, refl, ap, ◌∙◌, subst, ⊎_elim, append_assoc, append-nil, arith, length-append, length-drop}
+use Rattle.std.proofs.Common.{◌≡◌, ℕ, zero, suc, ◌+◌, ◌-◌, ◌<◌, ◌≤◌, min, true, ◌&&◌, eqb, List, [], ◌∷◌, ◌++◌, map, length, take, drop, set, Ok, Err, Result, sym, refl, ap, ◌∙◌, subst, ⊎_elim, append_assoc, append-nil, arith, length-append, length-drop}
 use native.Mathlib.Nat.{min-eq_left, min-le_right}
-use Rattle.std.proofs.lemmas.List.{take_more_set, map_push, take_all, take-append-le, take_at, drop_all, drop-drop, drop-set-lt, length_push, length-set, set_past}
+use Rattle.std.proofs.lemmas.List.{take_more_set, map_push, take_all, take-append-le, drop_all, drop-drop, drop-set-lt, length_push, length-set, set_past}
 use Rattle.std.proofs.lemmas.Bool.{cases_lt, cases_Bool, cond-true, cond-false, both_ways, and_parts, or_cases}
 use Rattle.rfc4180.specs.declared.faults.Location.{Location}
 use Rattle.rfc4180.specs.declared.faults.TextFault.{TextFault}
 use Rattle.rfc4180.specs.declared.fields.Field.{Field}
-use Rattle.rfc4180.specs.declared.lines.Delimiter.{Delimiter}
 use Rattle.rfc4180.specs.declared.lines.Delimiter.TheVariants.{Comma, LineEnd, TextEnd}
 use Rattle.rfc4180.specs.declared.lines.Line.{Line}
 use Rattle.rfc4180.specs.Grammar.{FieldText, written, with_commas}
 use Rattle.rfc4180.specs.Reading.{stops, begins_with_lf, Wrong, FieldRead, whole, faulty, LineRead, cut, damaged, before, read_field, behind_field, after_field, read_line}
 use Rattle.rfc4180.specs.Told.{field_text, text_fault, field_answer, delimiter, fields_of, field_behind, line_answer, Filled}
-use Rattle.rfc4180.proofs.FieldTells.{Stands, field_tells, Tells}
+use Rattle.rfc4180.proofs.FieldTells.{field_tells, Tells}
 use Rattle.rfc4180.proofs.LineSteps.{drop_clipped, line_step}
 
 -- a line with these fields in front

@@ -1,5 +1,5 @@
 -- RFC 4180 as a grammar of bytes: which bytes are a field, a line, the front of a text. Assumes nothing.
-use Rattle.std.specs.Prelude.{◌≡◌, ℕ, ◌<◌, Bool, true, not, ◌&&◌, ◌||◌, ◌⊎◌, List, [], ◌∷◌, ◌++◌, length, ◌==◌, nat_le}
+use Rattle.std.specs.Prelude.{◌≡◌, ℕ, Bool, true, not, ◌&&◌, ◌||◌, ◌⊎◌, List, [], ◌∷◌, ◌++◌, ◌==◌, nat_le}
 
 -- a byte of a plain field: printable, and neither a quotation mark (34) nor a comma (44)
 abbrev pub plain : ℕ → Bool

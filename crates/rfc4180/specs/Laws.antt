@@ -1,5 +1,5 @@
 -- What the reading of a line means, in the words of the grammar. Assumes nothing.
-use Rattle.std.specs.Prelude.{◌≡◌, ℕ, suc, ◌+◌, ◌<◌, true, false, ◌⊎◌, List, [], ◌∷◌, ◌++◌, length, take, drop, ◌≢◌, slice_index, slice_index_or}
+use Rattle.std.specs.Prelude.{◌≡◌, ℕ, suc, ◌+◌, ◌<◌, true, false, List, [], ◌∷◌, ◌++◌, length, take, drop, ◌≢◌, slice_index, slice_index_or}
 use Rattle.rfc4180.specs.Grammar.{FieldText, Lawful, AllLawful, written, with_commas, Derives}
 use Rattle.rfc4180.specs.Reading.{begins_with_lf, Wrong, not_allowed, unclosed, LineRead, cut, damaged, read_line}
 

@@ -1,6 +1,6 @@
 -- How the first line of a text is read, so that it computes. Laws.antt says that it is what the grammar derives.
 -- Assumes nothing.
-use Rattle.std.specs.Prelude.{◌≡◌, ℕ, zero, suc, ◌+◌, Bool, true, false, cond, ◌&&◌, ◌||◌, List, [], ◌∷◌, ◌++◌, length, take, drop, ◌==◌}
+use Rattle.std.specs.Prelude.{ℕ, zero, suc, ◌+◌, Bool, true, false, cond, ◌&&◌, ◌||◌, List, [], ◌∷◌, length, take, drop, ◌==◌}
 use Rattle.rfc4180.specs.declared.fields.Extent.{Extent}
 use Rattle.rfc4180.specs.declared.fields.Extent.TheVariants.{Ends, Offends, Runs}
 use Rattle.rfc4180.specs.Grammar.{plain, inside, FieldText, plainly, quoted, written}

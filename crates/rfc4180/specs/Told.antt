@@ -1,5 +1,5 @@
 -- What the code's answers stand for. Assumes nothing.
-use Rattle.std.specs.Prelude.{◌≡◌, ℕ, ◌+◌, ◌-◌, min, cond, List, [], ◌∷◌, ◌++◌, map, length, take, drop, Ok, Err, Result, ◌==◌}
+use Rattle.std.specs.Prelude.{◌≡◌, ℕ, ◌+◌, ◌-◌, cond, List, [], ◌∷◌, ◌++◌, map, length, take, drop, Ok, Err, Result, ◌==◌}
 use Rattle.rfc4180.specs.declared.fields.Field.{Field}
 use Rattle.rfc4180.specs.declared.fields.Field.TheVariants.{Plain, Quoted}
 use Rattle.rfc4180.specs.declared.faults.Location.{Location}

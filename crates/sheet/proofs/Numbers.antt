@@ -1,5 +1,5 @@
 -- The numbers that the fields of a row show are those of its line. Assumes nothing.
-use Rattle.std.proofs.Common.{◌≡◌, ℕ, suc, ◌+◌, ◌^◌, ◌<◌, false, cond, eqb, ◌⊎◌, List, [], ◌∷◌, ◌++◌, map, get_or, take, drop, ℤ, pos, negsuc, neg_ℤ, Some, None, decimal, refl, ap, ◌∙◌, subst, inl, inr, ⊎_elim, arith, w32, SFits}
+use Rattle.std.proofs.Common.{◌≡◌, ℕ, suc, ◌^◌, ◌<◌, false, cond, eqb, ◌⊎◌, List, [], ◌∷◌, ◌++◌, map, get_or, take, drop, ℤ, pos, negsuc, neg_ℤ, Some, None, decimal, refl, ap, ◌∙◌, subst, inl, inr, ⊎_elim, arith, w32, SFits}
 use lib.Signed.{mag}
 use borrow.Author.Differences.{ints}
 use Rattle.rfc4180.specs.Grammar.{plainly, quoted}

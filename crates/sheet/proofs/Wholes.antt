@@ -1,5 +1,5 @@
 -- A whole sheet is read back line by line. Assumes nothing.
-use Rattle.std.proofs.Common.{◌≡◌, ℕ, ◌+◌, ◌<◌, List, [], ◌∷◌, ◌++◌, map, length, sym, refl, ap, ◌∙◌, subst, arith, length-append}
+use Rattle.std.proofs.Common.{◌≡◌, ℕ, ◌<◌, List, [], ◌∷◌, ◌++◌, map, length, sym, refl, ap, ◌∙◌, subst, arith, length-append}
 use Rattle.rfc4180.specs.Grammar.{FieldText, Lawful, AllLawful}
 use Rattle.rfc4180.specs.Reading.{cut}
 use Rattle.rfc4180.proofs.Agreement.{derived_reads}

@@ -1,8 +1,8 @@
 -- The tests of the groups, as the code makes them, and one group more.
-use Rattle.std.proofs.Common.{◌≡◌, ℕ, ◌-◌, Bool, true, false, cond, ◌&&◌, ◌||◌, eqb, List, [], ◌∷◌, ◌++◌, get_or, Decides, sym, refl, ap, ◌∙◌, subst, arith}
+use Rattle.std.proofs.Common.{◌≡◌, ℕ, ◌-◌, true, ◌&&◌, ◌||◌, List, [], ◌∷◌, ◌++◌, refl, ap, ◌∙◌, subst, arith}
 use mathlib.Core.Bool.{Bool-set}
 use Rattle.std.specs.List.{list_any}
-use Rattle.std.proofs.lemmas.Bool.{and_parts, and_from, false≢true, cond-true}
+use Rattle.std.proofs.lemmas.Bool.{and_parts, and_from, cond-true}
 use Rattle.std.proofs.lemmas.Bool.Decides.{nat_tests}
 use Rattle.domain.specs.declared.range.Range.{Range}
 use Rattle.domain.specs.Boxes.{all_pass}
@@ -13,7 +13,7 @@ use Rattle.domain.specs.Ranges.{fits}
 use Rattle.taxonomy.specs.declared.Taxonomy.{Taxonomy}
 use Rattle.taxonomy.specs.Groups.{whole, nested, in_tree, well_nested, same, among, allowed}
 use Rattle.taxonomy.specs.Taxonomy.{taxonomy_meaning, leaves_of, groups_of, taxonomy_of}
-use Rattle.taxonomy.specs.TaxonomyFacts.{same_tells, same_from, in_tree_tells, in_whole}
+use Rattle.taxonomy.specs.TaxonomyFacts.{in_tree_tells, in_whole}
 
 other_way : (a y : Range) → same y a ≡ same a y
 other_way a y = grind (arith, nat_tests)

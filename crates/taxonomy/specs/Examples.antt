@@ -1,6 +1,5 @@
 -- Examples by hand, of the definitions. Assumes nothing.
 use Rattle.std.specs.Prelude.{◌≡◌, ℕ, List, [], ◌∷◌, Some, None, Option, refl}
-use Rattle.std.specs.List.{range_with_len}
 use Rattle.std.specs.Option.{option_map}
 use Rattle.domain.specs.declared.range.Range.{Range}
 use Rattle.domain.specs.Meaning.{Meaning, join_of, loss_of}

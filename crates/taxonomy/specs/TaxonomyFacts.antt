@@ -1,6 +1,6 @@
 -- Proofs alone: that nested groups are an attribute. A reader of the claims can pass it over.
-use Rattle.std.specs.Prelude.{◌≡◌, ℕ, ◌-◌, ◌<◌, ◌≤◌, max, Bool, true, false, cond, ◌&&◌, ◌||◌, ltb, ◌⊎◌, List, [], ◌∷◌, ◌++◌, fold, ◌==◌, nat_le, nat_lt, refl}
-use Rattle.std.proofs.Common.{sym, inl, inr, ⊎_elim, arith}
+use Rattle.std.specs.Prelude.{◌≡◌, ℕ, ◌-◌, ◌<◌, ◌≤◌, max, Bool, true, false, ◌&&◌, ◌||◌, ltb, ◌⊎◌, List, [], ◌∷◌, fold, ◌==◌, nat_le, nat_lt, refl}
+use Rattle.std.proofs.Common.{inl, inr, ⊎_elim, arith}
 use Rattle.std.proofs.lemmas.Bool.{leb-true, le-leb, ltb-true, ltb-false, lt-ltb, eqb-true, eq-eqb, and_parts, and_from, or_cases, or_left, or_right, or_parts, both_ways, cases_Bool, cond_both}
 use Rattle.domain.specs.declared.range.Range.{Range}
 use Rattle.domain.specs.Boxes.{all_pass}

@@ -1,4 +1,4 @@
-use Rattle.std.proofs.Common.{◌≡◌, true, false, length, is_ok, filter, sym, refl, ap, ◌∙◌, add-zero, arith}
+use Rattle.std.proofs.Common.{true, false, length, is_ok, filter, sym, ap, ◌∙◌, add-zero, arith}
 use Rattle.std.proofs.lemmas.List.{take_all}
 use Rattle.filter.proofs.Counting.{one_more}
 use Rattle.filter.proofs.count_taken.Goals as goal

@@ -1,5 +1,5 @@
-use Rattle.std.proofs.Common.{◌≡◌, map, length, is_ok, filter, sym, refl, ap, ◌∙◌, subst, arith}
-use Rattle.report.specs.Lines.{told, outcomes}
+use Rattle.std.proofs.Common.{length, is_ok, filter, ap, ◌∙◌, subst, arith}
+use Rattle.report.specs.Lines.{outcomes}
 use Rattle.report.specs.Whole.{Whole}
 use Rattle.filter.proofs.Counting.{told_taken}
 use Rattle.filter.proofs.survey.Goals as goal

@@ -1,4 +1,4 @@
-use Rattle.std.proofs.Common.{◌≡◌, true, false, sym, ⊎_elim, arith}
+use Rattle.std.proofs.Common.{sym, ⊎_elim, arith}
 use Rattle.domain.specs.Ranges.{within}
 use Rattle.domain.specs.Boxes.{range_at, value_at, covers}
 use Rattle.domain.proofs.Places.{covers_from, covers_tells}

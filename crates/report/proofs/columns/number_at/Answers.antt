@@ -1,4 +1,4 @@
-use Rattle.std.proofs.Common.{◌≡◌, Err, sym, refl, ap, ◌∙◌}
+use Rattle.std.proofs.Common.{Err, ap, ◌∙◌}
 use Rattle.report.specs.Columns.{or_kind_fault}
 use Rattle.report.specs.Numbers.{number_of}
 use Rattle.report.specs.declared.faults.LineFault.TheVariants.{FieldKind}

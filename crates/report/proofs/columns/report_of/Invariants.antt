@@ -1,4 +1,3 @@
-use Rattle.std.proofs.Common.{◌≡◌}
 use Rattle.report.proofs.columns.report_of.Given as goal
 use Rattle.report.proofs.Parsed.{Sofar}
 

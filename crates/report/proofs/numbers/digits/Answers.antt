@@ -1,4 +1,4 @@
-use Rattle.std.proofs.Common.{◌≡◌, ◌<◌, get_or, sym, refl, ap, ◌∙◌, arith}
+use Rattle.std.proofs.Common.{◌<◌, get_or, sym, ◌∙◌, arith}
 use Rattle.report.specs.Numbers.{behind_number}
 use Rattle.std.proofs.lemmas.List.{at_drop_all}
 use Rattle.report.proofs.Digits.{digit_small, digit_more, other_more, some_digits, power}

@@ -1,6 +1,5 @@
 use native.Mathlib.Nat.{sub-zero}
-use Rattle.std.proofs.Common.{◌≡◌, length, get_or, Err, sym, refl, ap, ◌∙◌, arith, length-append, length-drop, length-take, ltb-false, ltb-true, eqb-true}
-use borrow.Author.Tests.{eqb_apart}
+use Rattle.std.proofs.Common.{Err, sym, ap, ◌∙◌, arith, length-append, length-drop, length-take, ltb-false, eqb-true}
 use Rattle.rfc4180.specs.declared.faults.TextFault.TheVariants.{NotAllowed, Unclosed}
 use Rattle.rfc4180.specs.Told.{field_answer}
 use Rattle.rfc4180.proofs.Extents.{field_quoted}

@@ -1,6 +1,6 @@
-use Rattle.std.proofs.Common.{◌≡◌, ◌<◌, length, sym, refl, ap, ◌∙◌, arith, length-drop, length-take, ltb-false, ltb-true}
+use Rattle.std.proofs.Common.{◌<◌, length, sym, ap, ◌∙◌, arith, length-drop, length-take, ltb-false}
 use Rattle.rfc4180.specs.Reading.{further}
-use Rattle.rfc4180.proofs.Extents.{plain_further, further_further, tail}
+use Rattle.rfc4180.proofs.Extents.{plain_further, further_further}
 use Rattle.rfc4180.proofs.fields.plain_run.Goals as goal
 
 pub loop-rest-preserved : goal.loop-rest-preserved

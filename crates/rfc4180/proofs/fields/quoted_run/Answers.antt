@@ -1,7 +1,7 @@
-use Rattle.std.proofs.Common.{◌≡◌, ◌<◌, true, false, length, get_or, sym, refl, ap, ◌∙◌, add-zero, arith, length-drop, length-take, ltb-false, ltb-true, eqb-true}
+use Rattle.std.proofs.Common.{◌≡◌, ◌<◌, true, false, length, get_or, sym, ap, ◌∙◌, add-zero, arith, length-drop, length-take, ltb-false, ltb-true, eqb-true}
 use borrow.Author.Tests.{eqb_apart}
-use Rattle.rfc4180.specs.declared.fields.Extent.TheVariants.{Ends, Offends, Runs}
-use Rattle.rfc4180.specs.Reading.{further, quoted_extent}
+use Rattle.rfc4180.specs.declared.fields.Extent.TheVariants.{Ends, Runs}
+use Rattle.rfc4180.specs.Reading.{further}
 use Rattle.rfc4180.proofs.Extents.{quoted_end, quoted_ends, quoted_further, quoted_double, further_further, tail, empty_first}
 use Rattle.rfc4180.proofs.fields.quoted_run.Goals as goal
 use Rattle.rfc4180.proofs.fields.quoted_run.Goals.{in_default-via-then-behind-lt1, in_default-via-else-behind-lt1+in_default-1}

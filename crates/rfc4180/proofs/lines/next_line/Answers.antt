@@ -1,4 +1,4 @@
-use Rattle.std.proofs.Common.{◌≡◌, ℕ, ◌-◌, List, length, drop, sym, refl, ap, ◌∙◌, subst, arith, length-drop, length-take, ltb-false, ltb-true, eqb-true}
+use Rattle.std.proofs.Common.{◌≡◌, ℕ, ◌-◌, List, length, drop, sym, ap, ◌∙◌, subst, arith, length-drop, length-take, ltb-false, ltb-true, eqb-true}
 use borrow.Author.Tests.{eqb_apart}
 use Rattle.std.proofs.lemmas.List.{nil_from_length}
 use Rattle.rfc4180.specs.Reading.{behind_line_end}

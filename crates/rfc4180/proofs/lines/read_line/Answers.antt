@@ -1,9 +1,7 @@
-use Rattle.std.proofs.Common.{◌≡◌, ◌+◌, ◌-◌, [], ◌∷◌, ◌++◌, length, drop, set, Ok, Err, sym, refl, ap, ◌∙◌, subst, arith}
+use Rattle.std.proofs.Common.{◌+◌, drop, Err, sym, ap, ◌∙◌, subst, arith}
 use Rattle.std.proofs.lemmas.Result.{err_from_is_err_and}
-use Rattle.rfc4180.specs.Reading.{read_field, whole}
-use Rattle.rfc4180.specs.Told.{field_text, Filled}
 use Rattle.rfc4180.proofs.Damages.{agrees}
-use Rattle.rfc4180.proofs.Progress.{Sofar, Answered, start, at_fault, behind_comma, before_line_end, before_text_end, fits, read_faulty}
+use Rattle.rfc4180.proofs.Progress.{Sofar, start, at_fault, behind_comma, before_line_end, before_text_end, fits, read_faulty}
 use Rattle.rfc4180.proofs.lines.read_line.Goals as goal
 
 pub loop-field-init : goal.loop-field-init

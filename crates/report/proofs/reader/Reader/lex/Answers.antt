@@ -1,6 +1,6 @@
-use Rattle.std.proofs.Common.{◌≡◌, ◌+◌, ◌<◌, length, drop, sym, refl, ap, ◌∙◌, arith, length-drop}
+use Rattle.std.proofs.Common.{◌+◌, ◌<◌, length, drop, sym, refl, ap, ◌∙◌, arith, length-drop}
 use Rattle.report.specs.Readers.{place_behind}
-use Rattle.report.proofs.Advance.{Moved, moved, counted}
+use Rattle.report.proofs.Advance.{moved, counted}
 use Rattle.report.proofs.reader.Reader.lex.Goals as goal
 
 pub invariant_of-self : goal.invariant_of-self

@@ -1,5 +1,5 @@
-use Rattle.std.proofs.Common.{◌≡◌, ◌+◌, ◌-◌, ◌<◌, length, drop, sym, refl, ap, ◌∙◌, arith, length-drop}
-use Rattle.report.proofs.Advance.{Stays, stays}
+use Rattle.std.proofs.Common.{◌≡◌, ◌<◌, length, drop, refl, arith, length-drop}
+use Rattle.report.proofs.Advance.{stays}
 use Rattle.report.proofs.Outcomes.{taken, at_end}
 use Rattle.report.proofs.reader.Reader.next_line.Goals as goal
 

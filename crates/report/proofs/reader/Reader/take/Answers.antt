@@ -1,7 +1,7 @@
-use Rattle.std.proofs.Common.{◌≡◌, suc, ◌+◌, ◌-◌, ◌<◌, ◌≤◌, map, length, take, drop, Err, sym, refl, ap, ◌∙◌, subst, arith, length-drop, length-take, length-take-le}
+use Rattle.std.proofs.Common.{◌≡◌, suc, ◌+◌, ◌-◌, ◌<◌, length, drop, Err, sym, ap, ◌∙◌, arith, length-drop, length-take-le}
 use Rattle.rfc4180.specs.Grammar.{with_commas}
 use Rattle.rfc4180.specs.Reading.{read_line}
-use Rattle.rfc4180.specs.Told.{field_text, fields_of}
+use Rattle.rfc4180.specs.Told.{fields_of}
 use Rattle.report.specs.declared.faults.LineFault.TheVariants.{FieldCount}
 use Rattle.report.specs.Columns.{columns, of_columns}
 use Rattle.report.proofs.Outcomes.{was_cut, another_count, right_count, all_shown, room}

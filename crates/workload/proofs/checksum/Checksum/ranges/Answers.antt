@@ -1,4 +1,4 @@
-use Rattle.std.proofs.Common.{◌≡◌, ◌<◌, length, get_or, take, fold, sym, ap, ◌∙◌, arith}
+use Rattle.std.proofs.Common.{fold, ap, ◌∙◌}
 use Rattle.domain.specs.Ranges.{point}
 use Rattle.std.proofs.lemmas.List.{take_all}
 use Rattle.std.proofs.lemmas.List.Sums.{fold_more}

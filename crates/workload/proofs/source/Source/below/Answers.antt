@@ -1,5 +1,5 @@
-use Rattle.std.proofs.Common.{◌≡◌, refl, ap, arith, w64, Fits, rules}
-use Rattle.workload.specs.Draws.{next, part}
+use Rattle.std.proofs.Common.{ap, arith, w64, Fits, rules}
+use Rattle.workload.specs.Draws.{part}
 use Rattle.workload.proofs.Parts.{part_below}
 use Rattle.workload.proofs.source.Source.below.Goals as goal
 
