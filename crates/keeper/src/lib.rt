@@ -195,7 +195,7 @@ mod tests {
         clear(&mut places);
         let _ = offer(&mut places, FIRST);
         let _ = offer(&mut places, LOW_SHELF);
-        assert!(rt; items(&places) == &[LOW_SHELF, FIRST]);
+        assert!(rt; items(&places) == [LOW_SHELF, FIRST].as_slice());
     }
 
     // Four items for two places.
