@@ -1,5 +1,5 @@
 -- From a call's answer to what is passed on. Assumes nothing.
-use Rattle.std.proofs.Common.{◌≡◌, Some, None, Ok, Err, Option, Result, sym, refl, ap, ◌∙◌, arith}
+use Rattle.std.proofs.Common.{◌≡◌, Some, None, Ok, Err, Option, Result, sym, ap, ◌∙◌, arith}
 use Rattle.std.specs.Option.{option_map}
 use Rattle.report.specs.declared.columns.Report.{Report}
 use Rattle.report.specs.declared.faults.LineFault.{LineFault}

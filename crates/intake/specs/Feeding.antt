@@ -1,5 +1,5 @@
 -- What becomes of a report line whose record is fed to a stream. Assumes nothing.
-use Rattle.std.specs.Prelude.{◌≡◌, ℕ, Bool, true, false, List, length, is_ok, Some, None, Ok, Err, Option, Result}
+use Rattle.std.specs.Prelude.{◌≡◌, ℕ, Bool, false, List, length, is_ok, Some, None, Ok, Err, Option, Result}
 use Rattle.std.specs.Option as options
 use Rattle.std.specs.Result.{result_map_both, result_err}
 use Rattle.rfc4180.specs.declared.faults.Diagnostic.{Diagnostic}
@@ -17,7 +17,7 @@ use Rattle.rules.specs.States.{State}
 use Rattle.stream.specs.declared.stream.Stream.{Stream}
 use Rattle.stream.specs.Calls.{Goes_on}
 use Rattle.intake.specs.declared.faults.FeedFault.{FeedFault}
-use Rattle.intake.specs.declared.faults.FeedFault.TheVariants.{Line, Feed}
+use Rattle.intake.specs.declared.faults.FeedFault.TheVariants.{Feed}
 use Rattle.intake.specs.declared.faults.FeedRefusal.{FeedRefusal}
 use Rattle.intake.specs.Faults.{refusal_diagnostic, feed_diagnostic}
 

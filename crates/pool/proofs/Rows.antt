@@ -1,8 +1,8 @@
 -- The table beside held records that change.
-use Rattle.std.proofs.Common.{◌≡◌, ℕ, zero, suc, ◌+◌, ◌-◌, ◌^◌, ◌<◌, ◌≤◌, min, Bool, true, false, cond, not, eqb, ◌⊎◌, List, [], ◌∷◌, ◌++◌, map, length, get_or, set, filter, sym, refl, ap, ◌∙◌, subst, inl, inr, ⊎_elim, one-add, arith}
+use Rattle.std.proofs.Common.{◌≡◌, ℕ, zero, suc, ◌+◌, ◌-◌, ◌^◌, ◌<◌, ◌≤◌, min, Bool, true, false, cond, not, eqb, List, [], ◌∷◌, ◌++◌, map, length, get_or, set, filter, sym, refl, ap, ◌∙◌, subst, inl, inr, ⊎_elim, one-add, arith}
 use Rattle.std.specs.List.{remove, AllByRecursion}
 use Rattle.std.proofs.lemmas.List.{map-append, get_or-map, length-map}
-use Rattle.std.proofs.ByRecursion.{All-map, all_kept_by, All-weaker}
+use Rattle.std.proofs.ByRecursion.{All-map, all_kept_by}
 use Rattle.std.proofs.lemmas.Bool.{eq-eqb, ne_eqb, eqb-true, eqb-false, cases_eq, not-true, not_from_false}
 use Rattle.domain.specs.Meaning.{Meaning}
 use Rattle.domain.specs.Boxes.{point_box, box_loss}
@@ -11,9 +11,8 @@ use Rattle.rules.specs.declared.Held.{Held}
 use Rattle.rules.specs.Choosing.{In, listed}
 use Rattle.rules.specs.Laws.{Ascending}
 use Rattle.rules.specs.Around.{Fit}
-use Rattle.rules.specs.Facts.{ByPosition}
 use Rattle.rules.specs.Clusters.{owner, owners, size, values, records, members, others, clusters, Box, widened, box_of, cost}
-use Rattle.rules.specs.Turn.{merged, without}
+use Rattle.rules.specs.Turn.{merged}
 use Rattle.rules.proofs.Totals.{in_all, kept_in, in_kept, in_map, map_in}
 use Rattle.rules.proofs.Choices.{clusters_law, merger_law}
 use Rattle.rules.proofs.Around.{boxes_stand}

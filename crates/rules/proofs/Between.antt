@@ -1,5 +1,5 @@
 -- What holds of a state between the turns of a call: feeding and closing begin with it, and turns keep it.
-use Rattle.std.proofs.Common.{◌≡◌, ℕ, zero, suc, ◌+◌, ◌<◌, ◌≤◌, Bool, true, false, cond, not, eqb, List, [], ◌∷◌, ◌++◌, length, get_or, take, drop, Some, None, filter, sym, refl, ap, ◌∙◌, subst, arith}
+use Rattle.std.proofs.Common.{◌≡◌, ℕ, zero, suc, ◌+◌, ◌<◌, ◌≤◌, Bool, true, false, cond, not, eqb, List, [], ◌∷◌, length, get_or, Some, None, sym, refl, ap, ◌∙◌, subst, arith}
 use Rattle.std.specs.List.{remove, AllByRecursion}
 use Rattle.std.proofs.lemmas.List.{length_push, length-map}
 use Rattle.std.proofs.ByRecursion.{All-push, All-weaker, All-get_or}
@@ -10,15 +10,15 @@ use Rattle.release.specs.declared.Record.{Record}
 use Rattle.release.specs.declared.Line.{Line}
 use Rattle.rules.specs.declared.Entry.{Entry}
 use Rattle.rules.specs.declared.Held.{Held}
-use Rattle.rules.specs.Choosing.{In, total}
+use Rattle.rules.specs.Choosing.{In}
 use Rattle.rules.specs.Clusters.{entered}
 use Rattle.rules.specs.States.{State, crowd}
 use Rattle.rules.specs.Around.{Fit}
 use Rattle.rules.specs.Arrival.{home, arrive}
-use Rattle.rules.specs.Refusals.{feed_refusal, close_refusal}
+use Rattle.rules.specs.Refusals.{feed_refusal}
 use Rattle.rules.specs.Turn.{turn, without, grown}
 use Rattle.rules.specs.Runs.{History, Run, shut}
-use Rattle.rules.specs.Promise.{accepted, written, one, held_times}
+use Rattle.rules.specs.Promise.{accepted, written, held_times}
 use Rattle.rules.specs.Facts.{ByPosition, Between, is_suppressed, suppressed_lines}
 use Rattle.rules.proofs.Totals.{mark, mark_le, total_le, length_total}
 use Rattle.rules.proofs.Refused.{feeds}

@@ -4,7 +4,7 @@ use Rattle.std.specs.List.{range_with_len, AllByRecursion}
 use Rattle.std.specs.Option.{option_map}
 use Rattle.std.proofs.lemmas.Bool.{and_parts, not-false, leb-true, leb-false, ltb-false}
 use Rattle.domain.specs.Ranges.{span, within}
-use Rattle.domain.specs.Meaning.{Meaning, places, known, admits_of}
+use Rattle.domain.specs.Meaning.{Meaning, known, admits_of}
 use Rattle.domain.specs.Boxes.{value_at, attributes, known_count}
 use Rattle.domain.specs.BoxLaws.{Admitted}
 use Rattle.domain.proofs.Places.{known_tells}

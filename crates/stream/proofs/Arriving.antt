@@ -1,24 +1,19 @@
 -- A pool has a place for the record that arrives.
-use Rattle.std.proofs.Common.{◌≡◌, ℕ, ◌+◌, ◌<◌, ◌≤◌, true, ◌&&◌, ltb, ◌⊎◌, List, [], ◌∷◌, ◌++◌, length, IfSome, IfNone, Some, None, vec_items, vec_len, vec_capacity, Option, sym, refl, ap, ◌∙◌, subst, inl, inr, arith}
+use Rattle.std.proofs.Common.{◌≡◌, ℕ, ◌+◌, ◌<◌, ◌≤◌, true, ◌⊎◌, length, IfSome, IfNone, Some, None, vec_items, vec_len, vec_capacity, Option, ap, subst, inl, inr, arith}
 use Rattle.std.specs.List.{AllByRecursion}
 use Rattle.std.proofs.ByRecursion.{All-weaker}
 use Rattle.std.proofs.lemmas.Bool.{lt-ltb, and_from}
 use Rattle.domain.specs.Meaning.{Meaning}
 use Rattle.release.specs.declared.Settings.{Settings}
-use Rattle.release.specs.declared.Record.{Record}
 use Rattle.rules.specs.declared.Entry.{Entry}
-use Rattle.rules.specs.declared.Held.{Held}
-use Rattle.rules.specs.Clusters.{entered}
 use Rattle.rules.specs.States.{State}
-use Rattle.rules.specs.Arrival.{home, arrive}
 use Rattle.rules.specs.Runs.{History, Run}
 use Rattle.rules.proofs.Wholeness.{run_lawful}
 use Rattle.rules.proofs.Bounds.{facts}
 use Rattle.pool.specs.declared.Pool.{Pool}
-use Rattle.pool.specs.Tables.{Faithful, Roomy}
+use Rattle.pool.specs.Tables.{Roomy}
 use Rattle.pool.specs.Changes.{is_place, can_hold, can_open, SameMemory}
-use Rattle.choice.specs.Places.{home_of}
-use Rattle.stream.specs.Housing.{HasPlace, Housed}
+use Rattle.stream.specs.Housing.{HasPlace}
 
 pub roomy_after : (before after : Pool) → SameMemory before after → Roomy before → Roomy after
 roomy_after before after s r = record { for_held = omega (arith, s.for_held, r.for_held); for_clusters = omega (arith, s.for_clusters, r.for_clusters) }

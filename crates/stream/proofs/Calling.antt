@@ -1,5 +1,5 @@
 -- A call on a stream that a run leads to.
-use Rattle.std.proofs.Common.{◌≡◌, ℕ, zero, suc, ◌+◌, ◌<◌, ◌≤◌, List, [], ◌∷◌, ◌++◌, length, get_or, take, drop, Some, None, Ok, Err, vec_items, filter, Option, sym, refl, ap, ◌∙◌, subst, arith}
+use Rattle.std.proofs.Common.{◌≡◌, ℕ, zero, suc, ◌+◌, ◌<◌, ◌≤◌, List, [], ◌∷◌, length, get_or, take, drop, Some, None, Ok, Err, vec_items, filter, sym, refl, ap, ◌∙◌, subst, arith}
 use Rattle.std.proofs.lemmas.List.{length_push}
 use Rattle.domain.specs.Meaning.{Meaning}
 use Rattle.release.specs.declared.Settings.{Settings}
@@ -19,7 +19,6 @@ use Rattle.rules.proofs.Between.{between_fed, between_closed, turn_goes}
 use Rattle.rules.proofs.Refused.{lawful, feeds, closes}
 use Rattle.stream.specs.declared.stream.Stream.{Stream}
 use Rattle.stream.specs.Calls.{Goes_on}
-use Rattle.stream.specs.Places.{held_at}
 use Rattle.stream.specs.Views.{view, Stands, Leads}
 use Rattle.stream.specs.Within.{SameTerms, Holds, Comes, Serves, Drained}
 use Rattle.stream.specs.Writing.{put_at}

@@ -1,11 +1,11 @@
 -- Turns for the lowest held position, one by one.
-use Rattle.std.proofs.Common.{◌≡◌, ℕ, zero, suc, ◌+◌, ◌-◌, ◌<◌, ◌≤◌, List, [], ◌∷◌, ◌++◌, length, Some, None, sym, refl, ap, ◌∙◌, subst, arith}
+use Rattle.std.proofs.Common.{◌≡◌, ℕ, zero, suc, ◌+◌, ◌-◌, ◌<◌, ◌≤◌, List, [], ◌++◌, length, Some, None, sym, refl, ap, ◌∙◌, subst, arith}
 use Rattle.std.proofs.lemmas.List.{append-nil, append_assoc, length-append}
 use Rattle.domain.specs.Meaning.{Meaning}
 use Rattle.release.specs.declared.Settings.{Settings}
 use Rattle.release.specs.declared.Line.{Line}
 use Rattle.rules.specs.declared.Held.{Held}
-use Rattle.rules.specs.Choosing.{In, head}
+use Rattle.rules.specs.Choosing.{head}
 use Rattle.rules.specs.States.{State}
 use Rattle.rules.specs.Turn.{turn}
 use Rattle.rules.specs.Runs.{Served, serve, followed, drain}
@@ -13,7 +13,7 @@ use Rattle.rules.specs.Facts.{Between}
 use Rattle.rules.proofs.Between.{turn_goes}
 use Rattle.rules.proofs.Wholeness.{next_in}
 use Rattle.stream.specs.Writing.{put_at}
-use Rattle.stream.proofs.Writing.{put_none, put_put, length_put}
+use Rattle.stream.proofs.Writing.{put_none, put_put}
 
 module _ (m : Meaning) (g : Settings) where
   -- n rounds of a stream that holds nothing

@@ -1,7 +1,6 @@
 -- Draining a stream, turn by turn.
 use Rattle.std.proofs.Common.{◌≡◌, ℕ, ◌+◌, ◌<◌, ◌≤◌, List, [], ◌∷◌, length, get_or, Some, None, vec_items, sym, refl, ap, ◌∙◌, subst, arith}
 use Rattle.domain.specs.Meaning.{Meaning}
-use Rattle.release.specs.declared.Settings.{Settings}
 use Rattle.release.specs.declared.Line.{Line}
 use Rattle.rules.specs.declared.Held.{Held}
 use Rattle.rules.specs.Choosing.{head}

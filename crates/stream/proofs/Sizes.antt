@@ -1,5 +1,5 @@
 -- The rows of the table that a turn reads.
-use Rattle.std.proofs.Common.{◌≡◌, ℕ, Bool, true, false, eqb, List, [], sym, refl, ap, ◌∙◌, subst}
+use Rattle.std.proofs.Common.{◌≡◌, ℕ, eqb, List, [], sym, ap}
 use Rattle.std.proofs.lemmas.Bool.{ne_eqb}
 use Rattle.keeper.proofs.Filters.{kept_by_none}
 use Rattle.rules.specs.declared.Held.{Held}

@@ -1,5 +1,5 @@
 -- How a run goes on by a call, refused or not.
-use Rattle.std.proofs.Common.{◌≡◌, ℕ, List, [], ◌∷◌, Some, None, subst}
+use Rattle.std.proofs.Common.{◌≡◌, [], ◌∷◌, Some, None, subst}
 use Rattle.domain.specs.Meaning.{Meaning}
 use Rattle.release.specs.declared.Settings.{Settings}
 use Rattle.rules.specs.declared.refusals.Refusal.{Refusal}

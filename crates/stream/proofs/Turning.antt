@@ -8,7 +8,7 @@ use Rattle.rules.specs.Choosing.{In}
 use Rattle.rules.specs.Clusters.{size, members, clusters}
 use Rattle.rules.specs.Facts.{Between}
 use Rattle.rules.specs.Refusals.{open_refusal}
-use Rattle.rules.specs.Release.{Outcome, release}
+use Rattle.rules.specs.Release.{release}
 use Rattle.rules.specs.Turn.{Rule, large, outnumbered, too_few, joining, rule, applied, turn, suppress, grown}
 use Rattle.rules.proofs.Between.{grown_between, grown_length}
 use Rattle.rules.proofs.Fairness.{Says, rule_says}

@@ -1,4 +1,4 @@
-use Rattle.std.proofs.Common.{◌≡◌, true, false, sym, ap, ◌∙◌, ⊎_elim, arith}
+use Rattle.std.proofs.Common.{sym, ap, ◌∙◌, ⊎_elim, arith}
 use Rattle.audit.specs.Lines as lines
 use Rattle.domain.proofs.Places.{counting_from, counting_tells}
 use Rattle.std.proofs.lemmas.Bool.{both_ways, cases_Bool}

@@ -1,4 +1,4 @@
-use Rattle.std.proofs.Common.{◌+◌, cond, [], ◌∷◌, ◌++◌, length, get_or, take, sym, ap, ◌∙◌, arith}
+use Rattle.std.proofs.Common.{cond, [], ◌∷◌, ◌++◌, length, get_or, take, sym, ap, ◌∙◌, arith}
 use Rattle.std.proofs.lemmas.List.{length-append, take_all}
 use Rattle.split.specs.Near.{remaining}
 use Rattle.split.proofs.Blanks.{no_face}

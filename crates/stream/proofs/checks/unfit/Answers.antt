@@ -1,4 +1,4 @@
-use Rattle.std.proofs.Common.{◌≡◌, ◌+◌, ◌<◌, sym, arith}
+use Rattle.std.proofs.Common.{◌+◌, ◌<◌, sym, arith}
 use Rattle.domain.specs.Boxes.{known_count}
 use Rattle.rules.specs.Reasons.{no_value}
 use Rattle.rules.proofs.Reasons.{fault_back, no_fault}

@@ -1,10 +1,9 @@
-use Rattle.std.proofs.Common.{◌≡◌, ℕ, ◌<◌, take, drop, None, filter, sym, ap, ◌∙◌, subst, arith}
+use Rattle.std.proofs.Common.{◌≡◌, ◌<◌, take, drop, None, filter, sym, ◌∙◌, subst, arith}
 use Rattle.std.proofs.lemmas.List.{take_all}
 use Rattle.std.proofs.ByRecursion.{All-more}
-use Rattle.rules.specs.declared.Held.{Held}
 use Rattle.rules.specs.Choosing.{head}
 use Rattle.rules.specs.Facts.{ByPosition}
-use Rattle.rules.specs.States.{State, deadline, is_due}
+use Rattle.rules.specs.States.{deadline, is_due}
 use Rattle.stream.proofs.Deadlines.{Early, due_here, none_due, later}
 use Rattle.stream.proofs.dues.due.Goals as goal
 

@@ -1,7 +1,4 @@
-use Rattle.std.proofs.Common.{◌≡◌, ℕ, ◌+◌, ◌<◌, ◌≤◌, true, false, List, [], ◌∷◌, ◌++◌, length, get_or, take, None, sym, refl, ap, ◌∙◌, subst, arith}
-use Rattle.std.proofs.lemmas.List.{length_push}
-use Rattle.rules.specs.declared.Entry.{Entry}
-use Rattle.split.specs.Parted.{marked}
+use Rattle.std.proofs.Common.{◌<◌, ◌≤◌, length, get_or, None, sym, ◌∙◌, subst, arith}
 use Rattle.split.proofs.Marked.{marked_passes, marked_all}
 use Rattle.stream.specs.Writing.{Releases}
 use Rattle.stream.proofs.Releasing.{no_held, releases_none, part_takes}

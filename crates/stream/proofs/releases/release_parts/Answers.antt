@@ -1,4 +1,4 @@
-use Rattle.std.proofs.Common.{◌≡◌, sym, refl, ap, ◌∙◌, subst, arith}
+use Rattle.std.proofs.Common.{sym, refl, ◌∙◌}
 use Rattle.stream.proofs.Outputs.{Given, out_none, priced, low, space, out_more, out_all}
 use Rattle.stream.proofs.releases.release_parts.Goals as goal
 

@@ -1,4 +1,4 @@
-use Rattle.std.proofs.Common.{◌≡◌, ◌<◌, false, ◌||◌, eqb, length, get_or, sym, ap, ◌∙◌, arith, rules, ne_eqb}
+use Rattle.std.proofs.Common.{◌<◌, ◌||◌, eqb, length, get_or, sym, ap, ◌∙◌, rules, ne_eqb}
 use Rattle.audit.proofs.Naming.{named_more, named_on}
 use Rattle.audit.proofs.crowd.Crowd.has.Goals as goal
 

@@ -1,4 +1,4 @@
-use Rattle.std.proofs.Common.{◌≡◌, ◌<◌, ◌≤◌, length, take, sym, ap, ◌∙◌, arith, rules}
+use Rattle.std.proofs.Common.{◌<◌, length, take, sym, ◌∙◌, arith, rules}
 use Rattle.std.proofs.lemmas.List.{take_more_set, length-take}
 use Rattle.audit.proofs.Naming.{joined_new}
 use Rattle.audit.proofs.crowd.Crowd.name.Goals as goal

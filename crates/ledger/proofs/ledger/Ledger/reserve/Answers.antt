@@ -1,8 +1,8 @@
 use Rattle.std.proofs.Common.{◌≡◌, ℕ, List, [], map, reverse, length, replicate, vec_items, sym, refl, ap, ◌∙◌, subst}
 use Rattle.std.specs.List.{AllByRecursion}
 use Rattle.std.proofs.lemmas.List.{length-replicate}
-use Rattle.keeper.specs.Keeping.{Keeps, items_in}
-use Rattle.rules.specs.States.{Boxes, Kept}
+use Rattle.keeper.specs.Keeping.{Keeps}
+use Rattle.rules.specs.States.{Boxes}
 use Rattle.ledger.specs.declared.kept.KeptBox.{KeptBox}
 use Rattle.ledger.specs.KeptBoxes.{kept_of, rank_of, no_kept}
 use Rattle.ledger.specs.Ledgers.{Priced}

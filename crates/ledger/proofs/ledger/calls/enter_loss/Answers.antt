@@ -1,5 +1,4 @@
-use Rattle.std.proofs.Common.{◌≡◌, reverse, length, vec_items, vec_len, ap, ◌∙◌, arith}
-use Rattle.std.proofs.lemmas.List.{length_push}
+use Rattle.std.proofs.Common.{◌≡◌, reverse, length, vec_items, ap, ◌∙◌, arith}
 use Rattle.std.specs.List.{remove}
 use Rattle.ledger.proofs.Windows.{all_latest, latest_without_oldest}
 use Rattle.ledger.proofs.ledger.calls.enter_loss.Goals as goal

@@ -1,9 +1,6 @@
-use Rattle.std.proofs.Common.{◌≡◌, ℕ, ◌+◌, ◌<◌, ◌⊎◌, List, [], ◌∷◌, ◌++◌, length, IfSome, IfNone, vec_items, vec_len, sym, refl, ap, ◌∙◌, subst, arith}
+use Rattle.std.proofs.Common.{◌≡◌, ◌+◌, ◌<◌, ◌⊎◌, List, [], ◌∷◌, ◌++◌, length, IfSome, IfNone, vec_items, vec_len, sym, refl, ap, ◌∙◌, subst}
 use Rattle.rules.specs.declared.Entry.{Entry}
-use Rattle.rules.specs.declared.Held.{Held}
 use Rattle.rules.specs.Clusters.{entered}
-use Rattle.rules.specs.States.{State}
-use Rattle.rules.specs.Arrival as arrival
 use Rattle.rules.proofs.Bounds.{facts}
 use Rattle.rules.proofs.Refused.{feeds}
 use Rattle.ledger.specs.Ledgers.{ledger_boxes}

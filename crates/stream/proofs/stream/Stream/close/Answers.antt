@@ -1,7 +1,6 @@
-use Rattle.std.proofs.Common.{◌≡◌, length, sym, refl, ap, ◌∙◌}
+use Rattle.std.proofs.Common.{length, sym, refl}
 use Rattle.std.proofs.lemmas.Bool.{true≢false}
 use Rattle.rules.specs.Runs.{closing}
-use Rattle.stream.specs.Views.{Stands}
 use Rattle.stream.proofs.Calling.{goes_refused, closed_goes}
 use Rattle.stream.proofs.stream.Stream.close.Goals as goal
 

@@ -1,6 +1,6 @@
-use Rattle.std.proofs.Common.{◌≡◌, ◌<◌, length, vec_items, vec_len, sym, refl, ap, ◌∙◌, arith}
+use Rattle.std.proofs.Common.{◌<◌, length, vec_items, refl, ap, ◌∙◌, arith}
 use Rattle.std.proofs.lemmas.List.{nil_from_length}
-use Rattle.stream.proofs.Emptying.{Full, Empties, empties_none, empties_more, empties_all, empties_stop}
+use Rattle.stream.proofs.Emptying.{empties_none, empties_more, empties_all, empties_stop}
 use Rattle.stream.proofs.stream.Stream.drain.Goals as goal
 
 pub loop-init : goal.loop-init

@@ -1,6 +1,5 @@
-use Rattle.std.proofs.Common.{◌≡◌, true, false, length, vec_items, vec_len, sym, refl, ap, ◌∙◌, subst}
-use Rattle.stream.specs.Within.{SameTerms}
-use Rattle.stream.proofs.Growing.{Ready, Grows, grows_none, grows_more, grows_all, grows_stop, round_at}
+use Rattle.std.proofs.Common.{true, false, refl, ap, ◌∙◌}
+use Rattle.stream.proofs.Growing.{grows_none, grows_more, grows_all, grows_stop, round_at}
 use Rattle.stream.proofs.stream.Stream.grow.Goals as goal
 
 pub loop-init : goal.loop-init

@@ -1,5 +1,4 @@
-use Rattle.std.proofs.Common.{◌≡◌, ℕ, ◌<◌, true, not, ◌&&◌, eqb, ltb, length, Some, None, vec_items, vec_len, sym, ap, ◌∙◌, subst, inr, arith}
-use Rattle.std.specs.Option.{option_map}
+use Rattle.std.proofs.Common.{◌≡◌, true, not, eqb, ltb, Some, vec_items, vec_len, sym, ap, ◌∙◌, inr, arith}
 use Rattle.std.proofs.lemmas.Bool.{false≢true, lt-leb, lt-ltb, and_from, ne_eqb, not_from_false}
 use Rattle.rules.specs.Clusters.{size, members}
 use Rattle.rules.specs.Turn as turns

@@ -1,4 +1,4 @@
-use Rattle.std.proofs.Common.{◌≡◌, false, List, [], vec_items, sym, refl, ap, ◌∙◌, subst}
+use Rattle.std.proofs.Common.{◌≡◌, false, [], vec_items, sym, refl, ap, ◌∙◌, subst}
 use Rattle.rules.specs.States.{State, start}
 use Rattle.rules.specs.Runs.{Run, opened}
 use Rattle.ledger.specs.Ledgers.{ledger_boxes}

@@ -1,10 +1,9 @@
-use Rattle.std.proofs.Common.{◌≡◌, ℕ, ◌+◌, ◌<◌, ◌≤◌, List, map, length, vec_items, vec_len, Option, sym, refl, ap, ◌∙◌, subst, arith}
+use Rattle.std.proofs.Common.{◌≡◌, ◌≤◌, List, length, vec_items, sym, refl, ap, ◌∙◌, subst, arith}
 use Rattle.std.proofs.lemmas.List.{length-map}
 use Rattle.std.proofs.lemmas.Bool.{false≢true}
 use Rattle.rules.specs.declared.Held.{Held}
 use Rattle.rules.specs.Clusters.{size, members, others}
 use Rattle.ledger.specs.Ledgers.{ledger_boxes}
-use Rattle.rules.specs.States.{State, Boxes}
 use Rattle.rules.specs.Split.{parts}
 use Rattle.rules.proofs.Choices.{clusters_law}
 use Rattle.rules.proofs.Refused.{lawful}
@@ -12,10 +11,8 @@ use Rattle.pool.specs.declared.Cluster.{Cluster}
 use Rattle.pool.specs.Tables.{label_at, cluster_of}
 use Rattle.pool.proofs.Rows.{row_at}
 use Rattle.pool.proofs.Scans.{members_le}
-use Rattle.split.specs.declared.Part.{Part}
 use Rattle.split.specs.Parted.{part_of, Parted}
 use Rattle.stream.specs.Releases.{PartsOut}
-use Rattle.stream.specs.Views.{view}
 use Rattle.stream.proofs.Arriving.{roomy_after}
 use Rattle.stream.proofs.Outputs.{few_parts, parted_at}
 use Rattle.stream.proofs.stream.Stream.release.Goals as goal

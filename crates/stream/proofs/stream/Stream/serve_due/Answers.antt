@@ -1,4 +1,4 @@
-use Rattle.std.proofs.Common.{◌≡◌, length, vec_items, vec_len, sym, refl, ap, ◌∙◌, subst, arith}
+use Rattle.std.proofs.Common.{length, sym, refl, ap, arith}
 use Rattle.stream.specs.Views.{view}
 use Rattle.stream.proofs.Calling.{serves_none, serves_one}
 use Rattle.stream.proofs.stream.Stream.serve_due.Goals as goal

@@ -1,10 +1,10 @@
-use Rattle.std.proofs.Common.{◌≡◌, ℕ, ◌+◌, ◌<◌, ◌≤◌, ◌⊎◌, length, vec_items, vec_len, sym, refl, ap, ◌∙◌, subst, inl, inr, ⊎_elim, arith}
+use Rattle.std.proofs.Common.{◌<◌, length, vec_items, sym, refl, ap, ◌∙◌, subst, inl, inr, ⊎_elim, arith}
 use Rattle.rules.specs.declared.Held.{Held}
 use Rattle.rules.specs.Turn as turns
 use Rattle.rules.proofs.Opened.{is_open}
 use Rattle.rules.proofs.Refused.{lawful}
 use Rattle.stream.specs.Views.{view}
-use Rattle.stream.specs.Within.{SameTerms, Comes, rule_of}
+use Rattle.stream.specs.Within.{Comes, rule_of}
 use Rattle.stream.proofs.Turning.{same_read, in_place, large_turn, suppressed_turn, joining_turn}
 use Rattle.stream.proofs.stream.Stream.turn.Goals as goal
 
