@@ -15,7 +15,7 @@ use Rattle.rules.specs.Refusals.{feed_refusal}
 use Rattle.rules.specs.Runs.{History, feeding}
 use Rattle.rules.specs.States.{State}
 use Rattle.stream.specs.declared.stream.Stream.{Stream}
-use Rattle.stream.specs.Calls.{Goes_on}
+use Rattle.stream.specs.Calls.{GoesOn}
 use Rattle.intake.specs.declared.faults.FeedFault.{FeedFault}
 use Rattle.intake.specs.declared.faults.FeedFault.TheVariants.{Feed}
 use Rattle.intake.specs.declared.faults.FeedRefusal.{FeedRefusal}
@@ -55,4 +55,4 @@ is_taken (Some r) = is_ok r
 pub record Fed {D : Type 0} (m : Meaning) (h : History) (r : Report) (got : Option (Result ℕ FeedFault)) (before after : List release.Line) (s : Stream D) : Type 0 where
   pub answer : Result ℕ Refusal
   pub passed_on : got ≡ Some (result_map_both (λ n. n) (λ e. Feed (at_line r e)) answer)
-  pub goes_on : Goes_on m h (feeding (record_of r) (length before)) answer before after s
+  pub goes_on : GoesOn m h (feeding (record_of r) (length before)) answer before after s

@@ -6,7 +6,7 @@ ghost use Rattle.report.specs.Lines.{told};
 ghost use Rattle.report.specs.Readers.{Behind};
 ghost use Rattle.rules.specs.Refusals.{feed_refusal};
 ghost use Rattle.rules.specs.Runs.{History, feeding};
-ghost use Rattle.stream.specs.Calls.{Goes_on};
+ghost use Rattle.stream.specs.Calls.{GoesOn};
 ghost use Rattle.stream.specs.Views.{view, Leads};
 ghost use Rattle.stream.specs.Within.{SameTerms};
 ghost use Rattle.intake.specs.declared.faults.FeedFault.TheVariants as fault;
@@ -27,7 +27,7 @@ pub fn feed_report<D: Domain>(
     ensures refusal { result_err result ≡ options.option_map (at_line report.now) (feed_refusal (D.meaning stream.old.domain) (view stream.old) (record_of report.now) (length list.old)) }
     ensures unchanged { is_ok result ≡ false → (stream.new ≡ stream.old) × (list.new ≡ list.old) }
     ensures terms { SameTerms stream.old stream.new }
-    ensures goes_on { (h : History) → Leads (D.meaning stream.old.domain) h stream.old → Goes_on (D.meaning stream.old.domain) h (feeding (record_of report.now) (length list.old)) (without_line result) list.old list.new stream.new }
+    ensures goes_on { (h : History) → Leads (D.meaning stream.old.domain) h stream.old → GoesOn (D.meaning stream.old.domain) h (feeding (record_of report.now) (length list.old)) (without_line result) list.old list.new stream.new }
 {
     let fed = Record {
         owner: report.owner,

@@ -18,7 +18,7 @@ use Rattle.rules.specs.Runs.{Call, feeding, closing, wrote, History, Run, opened
 use Rattle.rules.proofs.Between.{between_fed, between_closed, turn_goes}
 use Rattle.rules.proofs.Refused.{lawful, feeds, closes}
 use Rattle.stream.specs.declared.stream.Stream.{Stream}
-use Rattle.stream.specs.Calls.{Goes_on}
+use Rattle.stream.specs.Calls.{GoesOn}
 use Rattle.stream.specs.Views.{view, Stands, Leads}
 use Rattle.stream.specs.Within.{SameTerms, Holds, Comes, Serves, Drained}
 use Rattle.stream.specs.Writing.{put_at}
@@ -34,7 +34,7 @@ run_open (then r c) = run_open r
 
 module _ {D : Type 0} (m : Meaning) (s : Stream D) (h : History) (leads : Leads m h s) (c : Call) (before : List Line) where
   pub goes_done : (t : Stream D) (after : List Line) (count : ℕ) → refusal m (view s) c ≡ None → t.settings ≡ s.settings → Holds m (done m s.settings (view s) c).after t
-      → after ≡ put_at 0 (done m s.settings (view s) c).lines before → count ≡ length (done m s.settings (view s) c).lines → count ≤ length before → Goes_on m h c (Ok count) before after t
+      → after ≡ put_at 0 (done m s.settings (view s) c).lines before → count ≡ length (done m s.settings (view s) c).lines → count ≤ length before → GoesOn m h c (Ok count) before after t
   goes_done t after count e same holds lines counts fits =
       let g = s.settings in
       let ls = (done m g (view s) c).lines in
@@ -47,7 +47,7 @@ module _ {D : Type 0} (m : Meaning) (s : Stream D) (h : History) (leads : Leads 
       let left : drop count after ≡ drop count before = ap (drop count) lines ∙ ap (λ k. drop k (put_at 0 ls before)) long ∙ drop_put 0 ls before room ∙ ap (λ k. drop k before) (sym long) in
       record { exchange = x; asked = refl; got = ap wrote (sym took); leads = record { run = run; stands = holds.stands }; promise = promise run; rest = (fits, left) }
 
-  pub goes_refused : (x : Refusal) → refusal m (view s) c ≡ Some x → Goes_on m h c (Err x) before before s
+  pub goes_refused : (x : Refusal) → refusal m (view s) c ≡ Some x → GoesOn m h c (Err x) before before s
   goes_refused x e =
       let run = run_refused c leads.run x e in
       record { exchange = refused_exchange c leads.run x; asked = refl; got = refl; leads = record { run = run; stands = leads.stands }; promise = promise run; rest = refl }
@@ -94,7 +94,7 @@ Serving m s before after count u = open_refusal m s.settings ≡ None → Betwee
 
 module _ {D : Type 0} (m : Meaning) (s : Stream D) (h : History) (leads : Leads m h s) (before after : List Line) (count : ℕ) (u : Stream D) where
   pub fed_goes : (r : Record) (m' : Meaning) (s' : Stream D) → feed_refusal m (view s) r (length before) ≡ None → m' ≡ m → SameTerms s s' → SameTerms s' u
-      → Holds m (arrive m s.settings (view s) (entered (s.accepted + 1) r)) s' → Serving m' s' before after count u → Goes_on m h (feeding r (length before)) (Ok count) before after u
+      → Holds m (arrive m s.settings (view s) (entered (s.accepted + 1) r)) s' → Serving m' s' before after count u → GoesOn m h (feeding r (length before)) (Ok count) before after u
   fed_goes r m' s' e same terms terms' holds f =
       let g = s.settings in
       let run = leads.run in
@@ -113,7 +113,7 @@ module _ {D : Type 0} (m : Meaning) (s : Stream D) (h : History) (leads : Leads 
   -- what is promised of draining the stream, once it is marked as closed
   pub closed_goes : (s' : Stream D) → view s' ≡ shut (view s) → s'.settings ≡ s.settings → u.settings ≡ s.settings → close_refusal (view s) (length before) ≡ None → Stands m s'
       → (open_refusal m s'.settings ≡ None → Between m s'.settings (view s') → Stands m s' → length (vec_items s'.pool.held) ≤ length before → Drained m s' before after count u)
-      → Goes_on m h (closing (length before)) (Ok count) before after u
+      → GoesOn m h (closing (length before)) (Ok count) before after u
   closed_goes s' shown set set' e stands f =
       let g = s.settings in
       let run = leads.run in

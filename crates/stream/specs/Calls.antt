@@ -28,7 +28,7 @@ KeepsRest (Ok n) before after = (n ≤ length before) × (drop n after ≡ drop 
 KeepsRest (Err e) before after = after ≡ before
 
 -- the run goes on by this call with this answer, leads to the stream that then is, and keeps the promise
-pub record Goes_on {D : Type 0} (m : Meaning) (h : History) (c : Call) (r : Result ℕ Refusal) (before after : List Line) (s : Stream D) : Type 0 where
+pub record GoesOn {D : Type 0} (m : Meaning) (h : History) (c : Call) (r : Result ℕ Refusal) (before after : List Line) (s : Stream D) : Type 0 where
   pub exchange : Exchange
   pub asked : exchange.asked ≡ c
   pub got : exchange.got ≡ answer r after

@@ -1,7 +1,7 @@
 // Whole lists of calls.
 ghost use Rattle.std.specs.Prelude.{◌≡◌, length};
 ghost use Rattle.rules.specs.Runs.{History};
-ghost use Rattle.stream.specs.Calls.{Goes_on};
+ghost use Rattle.stream.specs.Calls.{GoesOn};
 ghost use Rattle.stream.specs.Replays.{Made, Replays, call_of};
 ghost use Rattle.stream.specs.Views.{Leads};
 ghost use Rattle.stream.specs.Within.{SameTerms};
@@ -34,7 +34,7 @@ fn answer<D: Domain>(
     list: &mut [Line],
 ) -> Result<usize, Refusal>
     ensures terms { SameTerms stream.old stream.new }
-    ensures goes_on { (h : History) → Leads (D.meaning stream.old.domain) h stream.old → Goes_on (D.meaning stream.old.domain) h (call_of (length list.old) call) result list.old list.new stream.new }
+    ensures goes_on { (h : History) → Leads (D.meaning stream.old.domain) h stream.old → GoesOn (D.meaning stream.old.domain) h (call_of (length list.old) call) result list.old list.new stream.new }
 {
     match call {
         Call::Feed(fed) => stream.feed(fed, list),

@@ -3,7 +3,7 @@ ghost use Rattle.std.specs.Prelude.{◌≡◌, ◌≤◌, false, length, is_ok, 
 ghost use Rattle.rules.specs.Facts.{Between};
 ghost use Rattle.rules.specs.Refusals as refusals;
 ghost use Rattle.rules.specs.Runs.{History, feeding, closing};
-ghost use Rattle.stream.specs.Calls.{Opens, refusal_of, Goes_on};
+ghost use Rattle.stream.specs.Calls.{Opens, refusal_of, GoesOn};
 ghost use Rattle.stream.specs.Views.{view, Stands, Leads};
 ghost use Rattle.stream.specs.Within.{SameTerms, Serves};
 
@@ -94,7 +94,7 @@ impl<D: Domain> Stream<D> {
         ensures refusal { refusal_of result ≡ refusals.feed_refusal (D.meaning self.old.domain) (view self.old) fed (length list.old) }
         ensures unchanged { is_ok result ≡ false → (self.new ≡ self.old) × (list.new ≡ list.old) }
         ensures terms { SameTerms self.old self.new }
-        ensures goes_on { (h : History) → Leads (D.meaning self.old.domain) h self.old → Goes_on (D.meaning self.old.domain) h (feeding fed (length list.old)) result list.old list.new self.new }
+        ensures goes_on { (h : History) → Leads (D.meaning self.old.domain) h self.old → GoesOn (D.meaning self.old.domain) h (feeding fed (length list.old)) result list.old list.new self.new }
     {
         if let Some(refusal) = self.feed_refusal(&fed, list.len()) {
             return Err(refusal);
@@ -108,7 +108,7 @@ impl<D: Domain> Stream<D> {
         ensures refusal { refusal_of result ≡ refusals.close_refusal (view self.old) (length list.old) }
         ensures unchanged { is_ok result ≡ false → (self.new ≡ self.old) × (list.new ≡ list.old) }
         ensures terms { SameTerms self.old self.new }
-        ensures goes_on { (h : History) → Leads (D.meaning self.old.domain) h self.old → Goes_on (D.meaning self.old.domain) h (closing (length list.old)) result list.old list.new self.new }
+        ensures goes_on { (h : History) → Leads (D.meaning self.old.domain) h self.old → GoesOn (D.meaning self.old.domain) h (closing (length list.old)) result list.old list.new self.new }
     {
         if let Some(refusal) = self.close_refusal(list.len()) {
             return Err(refusal);

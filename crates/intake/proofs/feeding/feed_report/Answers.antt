@@ -1,7 +1,7 @@
 use Rattle.std.proofs.Common.{◌≡◌, length, Ok, Err, ap, subst, w32, to_z, of_z, rules}
 use Rattle.std.specs.Option.{option_map}
 use Rattle.rules.specs.Runs.{feeding}
-use Rattle.stream.specs.Calls.{Goes_on}
+use Rattle.stream.specs.Calls.{GoesOn}
 use Rattle.intake.specs.Feeding.{at_line}
 use Rattle.intake.proofs.feeding.feed_report.Goals as goal
 
@@ -17,7 +17,7 @@ returns-in-Ok g c =
       terms = fed.terms;
       goes_on = λ h leads.
           subst
-          (λ z. Goes_on (g.D.Domain.meaning c.args.stream.now.domain) h (feeding (record { owner = x.owner; values = x.values; reading = z }) (length list)) (Ok c.in-Ok.count) list c.feed.new.list c.feed.new.self) same
+          (λ z. GoesOn (g.D.Domain.meaning c.args.stream.now.domain) h (feeding (record { owner = x.owner; values = x.values; reading = z }) (length list)) (Ok c.in-Ok.count) list c.feed.new.list c.feed.new.self) same
           (fed.goes_on h leads);
     }
 
@@ -33,6 +33,6 @@ returns-in-Err g c =
       terms = fed.terms;
       goes_on = λ h leads.
           subst
-          (λ z. Goes_on (g.D.Domain.meaning c.args.stream.now.domain) h (feeding (record { owner = x.owner; values = x.values; reading = z }) (length list)) (Err c.in-Err.refusal) list c.feed.new.list c.feed.new.self) same
+          (λ z. GoesOn (g.D.Domain.meaning c.args.stream.now.domain) h (feeding (record { owner = x.owner; values = x.values; reading = z }) (length list)) (Err c.in-Err.refusal) list c.feed.new.list c.feed.new.self) same
           (fed.goes_on h leads);
     }
