@@ -1,11 +1,11 @@
 // Tells of each report line on standard input what was taken from it, or why and where it was turned away.
 #![tactic(auto)]
 
-use anyhow::anyhow;
 use filter::{Entry, LIMIT, survey};
 use std::io::Read;
+use std::process::ExitCode;
 
-fn main(rt: HostRuntime) -> anyhow::Result<()> {
+fn main(rt: HostRuntime) -> anyhow::Result<ExitCode> {
     let heap = rt.alloc();
     let mut input = Vec::new(heap);
     // One byte more than may be is enough to see that there are too many.
@@ -17,7 +17,7 @@ fn main(rt: HostRuntime) -> anyhow::Result<()> {
                 Some(number) => eprintln!(rt; "castle: {number}, {refusal}")?,
                 None => eprintln!(rt; "castle: {refusal}")?,
             }
-            return Err(anyhow!("refused"));
+            return Ok(ExitCode::FAILURE);
         }
     };
     for outcome in findings.lines.iter() {
@@ -30,5 +30,5 @@ fn main(rt: HostRuntime) -> anyhow::Result<()> {
         "{lines} lines: {taken} taken, {} turned away",
         lines.saturating_sub(taken)
     )?;
-    Ok(())
+    Ok(ExitCode::SUCCESS)
 }

@@ -45,7 +45,7 @@ loss_le m i a =
 pub join_least : (m : Meaning) (i : ℕ) (a b : Range) → known m i ≡ true → (m.attribute i).allowed a ≡ true → (m.attribute i).allowed b ≡ true → Least (m.attribute i).allowed a b (join_of m i a b)
 join_least m i a b k p q = subst (Least (m.attribute i).allowed a b) (sym (join_known m i a b k p q)) ((m.attribute i).facts.joins a b p q)
 
--- ---- tests of each and sums over `counting`
+-- ---- tests of each and sums over `range_with_len`
 
 pub all_pass_from : {X : Type 0} (p : X → Bool) (xs : List X) → AllByRecursion (λ x. p x ≡ true) xs → all_pass p xs ≡ true
 all_pass_from p [] h = refl

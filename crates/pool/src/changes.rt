@@ -1,5 +1,5 @@
 // What changes a pool. Each change keeps the table in step with the held records, and none but `reserve` asks for memory.
-ghost use Rattle.std.specs.Prelude.{◌≡◌, ◌<◌, not, ltb, [], ◌∷◌, ◌++◌, IfOk, if◌then◌else◌, vec_len, vec_capacity, nat_lt, slice_index_or, slice_set};
+ghost use Rattle.std.specs.Prelude.{◌≡◌, ◌<◌, not, [], ◌∷◌, ◌++◌, IfOk, if◌then◌else◌, vec_len, vec_capacity, nat_lt, slice_index_or, slice_set};
 ghost use Rattle.std.specs.List.{remove, AllByRecursion};
 ghost use Rattle.domain.specs.Meaning.{Meaning};
 ghost use Rattle.rules.specs.Around.{Fit};
@@ -113,8 +113,8 @@ impl Pool {
     // The held record at place `at` leaves its cluster, which closes if that was its last. Where there is no such place,
     // nothing changes.
     pub fn leave<D: Domain>(&mut self, d: &D, at: usize)
-        ensures held { held_of self.new ≡ (if ltb at (vec_len self.old.held) then remove (held_of self.old) at else held_of self.old) }
-        ensures clusters { rows_of self.new ≡ (if ltb at (vec_len self.old.held) then renewed (D.meaning d.now) (remove (held_of self.old) at) (label_of (held_of self.old) at) (rows_of self.old) else rows_of self.old) }
+        ensures held { held_of self.new ≡ (if nat_lt at (vec_len self.old.held) then remove (held_of self.old) at else held_of self.old) }
+        ensures clusters { rows_of self.new ≡ (if nat_lt at (vec_len self.old.held) then renewed (D.meaning d.now) (remove (held_of self.old) at) (label_of (held_of self.old) at) (rows_of self.old) else rows_of self.old) }
         ensures faithful { Faithful (D.meaning d.now) self.old → Faithful (D.meaning d.now) self.new }
         ensures memory { SameMemory self.old self.new }
     {

@@ -1,5 +1,5 @@
 -- What the reading of a line means, in the words of the grammar. Assumes nothing.
-use Rattle.std.specs.Prelude.{◌≡◌, ℕ, suc, ◌+◌, ◌<◌, true, false, List, [], ◌∷◌, ◌++◌, length, take, drop, ◌≢◌, slice_index, slice_index_or}
+use Rattle.std.specs.Prelude.{◌≡◌, ℕ, suc, ◌+◌, ◌<◌, true, false, List, [], ◌∷◌, ◌++◌, length, take, drop, ◌≢◌, slice_index}
 use Rattle.rfc4180.specs.Grammar.{FieldText, Lawful, AllLawful, written, with_commas, Derives}
 use Rattle.rfc4180.specs.Reading.{begins_with_lf, Wrong, not_allowed, unclosed, LineRead, cut, damaged, read_line}
 
@@ -16,7 +16,7 @@ pub record Offends (text : List ℕ) (p : ℕ) : Type 0 where
   pub within : p < length text
   pub before : (more : List ℕ) × HasLine (take p text ++ more)
   pub here : (more : List ℕ) → HasLine (take (suc p) text ++ more) → (slice_index text p ≡ 13) × (begins_with_lf more ≡ true)
-  pub alone : slice_index_or text p 0 ≡ 13 → begins_with_lf (drop (suc p) text) ≡ false
+  pub alone : slice_index text p ≡ 13 → begins_with_lf (drop (suc p) text) ≡ false
 
 -- the text ends at p, and whatever could make it lawful has the quotation mark that is missing
 pub record Unclosed (text : List ℕ) (p : ℕ) : Type 0 where

@@ -1,5 +1,5 @@
 -- A record's turn: the first of five rules that fits, and what it does. Assumes nothing.
-use Rattle.std.specs.Prelude.{ℕ, zero, suc, ◌+◌, ◌*◌, Bool, true, false, cond, not, ltb, List, [], ◌∷◌, map, length, Some, None, filter, Option, ◌==◌, nat_le, nat_lt}
+use Rattle.std.specs.Prelude.{ℕ, zero, suc, ◌+◌, ◌*◌, Bool, true, false, cond, not, List, [], ◌∷◌, map, length, Some, None, filter, Option, ◌==◌, nat_le, nat_lt}
 use Rattle.domain.specs.Meaning.{Meaning}
 use Rattle.release.specs.declared.Settings.{Settings}
 use Rattle.release.specs.declared.Manner.TheVariants.{Reused, Suppressed}
@@ -27,7 +27,7 @@ cover m s t = chosen (filter (λ b. covers_entry m b.ranges t.entry) s.boxes.kep
 
 -- how many open clusters are larger than c
 abbrev pub larger : ℕ → List Held → ℕ
-larger c hs = length (filter (λ d. ltb (size (members c hs)) (size (members d hs))) (clusters hs))
+larger c hs = length (filter (λ d. nat_lt (size (members c hs)) (size (members d hs))) (clusters hs))
 
 -- more than half of the open clusters are larger
 abbrev pub is_outnumbered : State → Held → Bool

@@ -1,5 +1,5 @@
 -- Proofs alone: that nested groups are an attribute. A reader of the claims can pass it over.
-use Rattle.std.specs.Prelude.{◌≡◌, ℕ, ◌-◌, ◌<◌, ◌≤◌, max, Bool, true, false, ◌&&◌, ◌||◌, ltb, ◌⊎◌, List, [], ◌∷◌, fold, ◌==◌, nat_le, nat_lt, refl}
+use Rattle.std.specs.Prelude.{◌≡◌, ℕ, ◌-◌, ◌<◌, ◌≤◌, max, Bool, true, false, ◌&&◌, ◌||◌, ◌⊎◌, List, [], ◌∷◌, fold, ◌==◌, nat_le, nat_lt, refl}
 use Rattle.std.proofs.Common.{inl, inr, ⊎_elim, arith}
 use Rattle.std.proofs.lemmas.Bool.{leb-true, le-leb, ltb-true, ltb-false, lt-ltb, eqb-true, eq-eqb, and_parts, and_from, or_cases, or_left, or_right, or_parts, both_ways, cases_Bool, cond_both}
 use Rattle.domain.specs.declared.range.Range.{Range}
@@ -212,7 +212,7 @@ cover_least m gs e a b ka kb =
 pub in_whole : (m : ℕ) (gs : List Range) (a : Range) → allowed m gs a ≡ true → Inside a (whole m)
 in_whole m gs a e = let t = in_tree_tells m gs a e in omega arith
 
-pub taxonomy_facts : (m : ℕ) (gs : List Range) → well_nested m gs ≡ true → Facts (λ v. ltb v m) (allowed m gs) (cover m gs) (share (whole m))
+pub taxonomy_facts : (m : ℕ) (gs : List Range) → well_nested m gs ≡ true → Facts (λ v. nat_lt v m) (allowed m gs) (cover m gs) (share (whole m))
 taxonomy_facts m gs e = record {
   ordered = λ a p. (in_tree_tells m gs a p).ordered;
   points = λ v p. allowed_from m gs (point v) (record { ordered = omega arith; below = ltb-true _ _ p }) (or_left (v == v) _ (eq-eqb v v refl));
