@@ -1,11 +1,11 @@
 -- Boxes place by place, and their laws from those of each attribute.
-use Rattle.std.proofs.Common.{◌≡◌, ℕ, zero, suc, ◌+◌, ◌<◌, ◌≤◌, Bool, true, false, cond, ◌&&◌, ltb, leb, List, [], ◌∷◌, map, length, sum, sym, refl, ap, ◌∙◌, subst, ⊎_elim, arith}
-use Rattle.std.specs.List.{range_with_len, AllByRecursion}
+use Rattle.std.proofs.Common.{◌≡◌, ℕ, zero, suc, ◌+◌, ◌<◌, ◌≤◌, Bool, true, false, cond, ◌&&◌, ltb, leb, List, map, length, sum, sym, refl, ap, ◌∙◌, subst, ⊎_elim, arith}
+use Rattle.std.specs.List.{range_with_len}
 use Rattle.std.proofs.lemmas.List.FromFn.{length-range_with_len, length-map-range_with_len, fill_by_all, get_or-range_with_len, get_or-map-range_with_len, sum_by-map-range_with_len_more}
 use Rattle.std.proofs.lemmas.List.{get_or_past}
-use Rattle.std.proofs.ByRecursion.{All-get_or, All-from_get_or}
-use Rattle.std.proofs.lemmas.List.Sums.{sum_by-cons}
-use Rattle.std.proofs.lemmas.Bool.{ltb-true, lt-ltb, le-ltb, leb-true, le-leb, and_parts, and_from, and_left, or_cases, cases_Bool, cases_lt, cond-true, cond-false, cond_both}
+use Rattle.std.proofs.lemmas.List.Elements.{All-get_or, All-from_get_or}
+use Rattle.std.proofs.lemmas.List.Sums.{sum_by-cons, list_all-from_AllPass, AllPass-from_list_all}
+use Rattle.std.proofs.lemmas.Bool.{ltb-true, lt-ltb, leb-true, le-leb, and_parts, and_from, and_left, or_cases, cases_Bool, cases_lt, cond-true, cond-false, cond_both}
 use Rattle.domain.specs.declared.range.Range.{Range}
 use Rattle.domain.specs.Ranges.{point, within, Inside}
 use Rattle.domain.specs.Meaning.{Meaning, full_loss, places, known, join_of, loss_of, Least}
@@ -24,9 +24,6 @@ known_tells m i e =
 
 pub known_from : (m : Meaning) (i : ℕ) → i < known_count m → known m i ≡ true
 known_from m i l = and_from (ltb i m.n) (ltb i places) (lt-ltb i m.n (omega arith)) (lt-ltb i places (omega arith))
-
-pub known_not : (m : Meaning) (i : ℕ) → m.n ≤ i → known m i ≡ false
-known_not m i l = and_left _ _ (le-ltb i m.n l)
 
 pub join_known : (m : Meaning) (i : ℕ) (a b : Range) → known m i ≡ true → (m.attribute i).allowed a ≡ true → (m.attribute i).allowed b ≡ true → join_of m i a b ≡ (m.attribute i).join a b
 join_known m i a b k p q = cond-true (known m i && ((m.attribute i).allowed a && (m.attribute i).allowed b)) ((m.attribute i).join a b) a (and_from _ _ k (and_from _ _ p q))
@@ -47,23 +44,15 @@ join_least m i a b k p q = subst (Least (m.attribute i).allowed a b) (sym (join_
 
 -- ---- tests of each and sums over `range_with_len`
 
-pub all_pass_from : {X : Type 0} (p : X → Bool) (xs : List X) → AllByRecursion (λ x. p x ≡ true) xs → all_pass p xs ≡ true
-all_pass_from p [] h = refl
-all_pass_from p (x ∷ xs) h = and_from (p x) (all_pass p xs) h.0 (all_pass_from p xs h.1)
-
-pub all_pass_tells : {X : Type 0} (p : X → Bool) (xs : List X) → all_pass p xs ≡ true → AllByRecursion (λ x. p x ≡ true) xs
-all_pass_tells p [] h = tt
-all_pass_tells p (x ∷ xs) h = let q = and_parts (p x) (all_pass p xs) h in (q.0, all_pass_tells p xs q.1)
-
 pub counting_from : (p : ℕ → Bool) (n : ℕ) → ((i : ℕ) → i < n → p i ≡ true) → all_pass p (range_with_len 0 n) ≡ true
 counting_from p n h =
-    all_pass_from p (range_with_len 0 n) (All-from_get_or (λ i. p i ≡ true) (range_with_len 0 n) 0
+    list_all-from_AllPass p (range_with_len 0 n) (All-from_get_or (λ i. p i ≡ true) (range_with_len 0 n) 0
     (λ i l. let l' : i < n = omega (arith, length-range_with_len 0 n) in subst (λ j. p j ≡ true) (sym (get_or-range_with_len 0 n i 0 l' ∙ omega arith)) (h i l')))
 
 pub counting_tells : (p : ℕ → Bool) (n i : ℕ) → all_pass p (range_with_len 0 n) ≡ true → i < n → p i ≡ true
 counting_tells p n i e l =
     subst (λ j. p j ≡ true) (get_or-range_with_len 0 n i 0 l ∙ omega arith)
-    (All-get_or (λ i. p i ≡ true) (range_with_len 0 n) i 0 (omega (arith, length-range_with_len 0 n)) (all_pass_tells p (range_with_len 0 n) e))
+    (All-get_or (λ i. p i ≡ true) (range_with_len 0 n) i 0 (omega (arith, length-range_with_len 0 n)) (AllPass-from_list_all p (range_with_len 0 n) e))
 
 pub sum_more : (f : ℕ → ℕ) (n : ℕ) → sum (map f (range_with_len 0 (n + 1))) ≡ sum (map f (range_with_len 0 n)) + f n
 sum_more f n = sum_by-map-range_with_len_more (λ x. x) f 0 n n (omega arith)
@@ -214,28 +203,6 @@ box_semilattice m =
           (λ u. join_unknown m i (join_of m i (range_at a i) (range_at b i)) (range_at c i) u ∙ join_unknown m i (range_at a i) (range_at b i) u ∙ sym (join_unknown m i (range_at a i) (join_of m i (range_at b i) (range_at c i)) u))
           (cases_Bool (known m i)) ∙ sym (ap (join_of m i (range_at a i)) (at b c i l)) ∙ sym (at a (J b c) i l));
     }
-
--- ---- what the loops end with
-
-pub point_box_is : (m : Meaning) (vs : List ℕ) (b : List Range) → length b ≡ places → ((k : ℕ) → k < known_count m → range_at b k ≡ point (value_at vs k)) → ((k : ℕ) → known_count m ≤ k → range_at b k ≡ point 0) → b ≡ point_box m vs
-unfolding point_box
-point_box_is m vs b six low high =
-    fill_by_all (λ i. point (cond (known m i) (value_at vs i) 0)) b places (point 0) six (λ k l. ⊎_elim
-    (λ in'. low k in' ∙ ap point (sym (cond-true (known m k) (value_at vs k) 0 (known_from m k in'))))
-    (λ out. high k out ∙ ap point (sym (cond-false (known m k) (value_at vs k) 0 (known_not m k (omega arith)))))
-    (cases_lt k (known_count m)))
-
-pub join_boxes_is : (m : Meaning) (a b j : List Range) → length j ≡ places → ((k : ℕ) → k < known_count m → range_at j k ≡ join_of m k (range_at a k) (range_at b k)) → ((k : ℕ) → known_count m ≤ k → range_at j k ≡ range_at a k) → j ≡ join_boxes m a b
-unfolding join_boxes
-join_boxes_is m a b j six low high =
-    fill_by_all (λ i. join_of m i (range_at a i) (range_at b i)) j places (point 0) six (λ k l. ⊎_elim
-    (λ in'. low k in')
-    (λ out. high k out ∙ sym (join_unknown m k (range_at a k) (range_at b k) (known_not m k (omega arith))))
-    (cases_lt k (known_count m)))
-
-pub widened_is : (m : Meaning) (b : List Range) (vs : List ℕ) (j : List Range) → length j ≡ places → ((k : ℕ) → k < known_count m → range_at j k ≡ join_of m k (range_at b k) (point (value_at vs k))) → ((k : ℕ) → known_count m ≤ k → range_at j k ≡ range_at b k) → j ≡ join_boxes m b (point_box m vs)
-widened_is m b vs j six low high =
-    join_boxes_is m b (point_box m vs) j six (λ k l. low k l ∙ ap (join_of m k (range_at b k)) (sym (point_box_known m vs k (known_from m k l)))) high
 
 -- a box that took a record in
 pub widened_least : (m : Meaning) (b : List Range) (vs : List ℕ) → Allowed m b → Admitted m vs → LeastWider m b vs (join_boxes m b (point_box m vs))

@@ -1,6 +1,6 @@
 -- Boxes: a list of ranges, one to a place, beside a record's values. Assumes nothing.
-use Rattle.std.specs.Prelude.{ℕ, min, Bool, true, cond, ◌&&◌, List, [], ◌∷◌, map, sum, slice_index, slice_index_or}
-use Rattle.std.specs.List.{range_with_len}
+use Rattle.std.specs.Prelude.{ℕ, min, Bool, cond, List, map, sum, slice_index, slice_index_or}
+use Rattle.std.specs.List.{range_with_len, list_all}
 use Rattle.domain.specs.declared.range.Range.{Range}
 use Rattle.domain.specs.Ranges.{point, within}
 use Rattle.domain.specs.Meaning.{Meaning, places, known, join_of, loss_of}
@@ -21,8 +21,7 @@ attributes m = range_with_len 0 (known_count m)
 
 -- each passes the test
 abbrev pub all_pass : {X : Type 0} → (X → Bool) → List X → Bool
-all_pass p [] = true
-all_pass p (x ∷ xs) = p x && all_pass p xs
+all_pass p xs = list_all p xs
 
 -- the box of one record: its values, and (0, 0) where no attribute is known
 unfoldable pub point_box : Meaning → List ℕ → List Range

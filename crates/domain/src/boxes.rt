@@ -1,23 +1,22 @@
 // A box has a range for each of six attributes, of which those that the domain knows count.
-ghost use Rattle.std.specs.Prelude.{◌≡◌, ◌*◌, ◌≤◌};
+ghost use Rattle.std.specs.Prelude.{◌≡◌, ℕ, ◌*◌, ◌<◌, ◌≤◌, map, sum};
 ghost use Rattle.domain.specs.BoxLaws.{Allowed, Admitted, LeastBox, LeastCover, LeastWider, CoversBoth, LosesLeast, BoxSemilattice};
 ghost use Rattle.domain.specs.Boxes as boxes;
-ghost use Rattle.domain.specs.Boxes.{known_count, point_box, join_boxes, box_loss};
+ghost use Rattle.domain.specs.Boxes.{attributes, known_count, point_box, join_boxes, box_loss};
+ghost use Rattle.domain.specs.declared.range.Range.{Range};
 ghost use Rattle.domain.specs.Examples.{BoxExamples};
-ghost use Rattle.domain.specs.Meaning.{full_loss};
+ghost use Rattle.domain.specs.Meaning.{full_loss, loss_of};
 
 use crate::{Domain, PLACES, Range};
+use std::array;
 
 // The least box that covers one record's values.
 pub fn point_box<D: Domain>(d: &D, values: &[u32; PLACES]) -> [Range; PLACES]
     ensures value { result ≡ point_box (D.meaning d.now) values.now }
     ensures least { Admitted (D.meaning d.now) values.now → LeastCover (D.meaning d.now) values.now result }
 {
-    let mut bounds = [Range::point(0); PLACES];
-    for i in 0..d.width().min(PLACES) {
-        bounds[i] = Range::point(values[i]);
-    }
-    bounds
+    let known = d.width();
+    array::from_fn(|i| Range::point(if i < known { values[i] } else { 0 }))
 }
 
 // The least box that contains both.
@@ -28,11 +27,7 @@ pub fn join_boxes<D: Domain>(d: &D, a: &[Range; PLACES], b: &[Range; PLACES]) ->
     ensures laws { BoxSemilattice (D.meaning d.now) }
     ensures examples { BoxExamples }
 {
-    let mut joined = *a;
-    for i in 0..d.width().min(PLACES) {
-        joined[i] = d.join(i, a[i], b[i]);
-    }
-    joined
+    array::from_fn(|i| d.join(i, a[i], b[i]))
 }
 
 // Makes the box the least one that contains it and covers the values.
@@ -40,9 +35,21 @@ pub fn widen<D: Domain>(d: &D, bounds: &mut [Range; PLACES], values: &[u32; PLAC
     ensures value { bounds.new ≡ join_boxes (D.meaning d.now) bounds.old (point_box (D.meaning d.now) values.now) }
     ensures least { Allowed (D.meaning d.now) bounds.old → Admitted (D.meaning d.now) values.now → LeastWider (D.meaning d.now) bounds.old values.now bounds.new }
 {
+    *bounds = join_boxes(d, bounds, &point_box(d, values));
+}
+
+// The loss of the box that has `range(i)` at each place `i`. No box is built.
+pub fn box_loss_by<D: Domain, F: Fn(usize) -> Range>(d: &D, range: F) -> u32
+    requires { (i : ℕ) → i < PLACES → F.pre range i }
+    ensures value { (f : ℕ → Range) → ((i : ℕ) (r : Range) → i < PLACES → F.post range i r → r ≡ f i) → result ≡ sum (map (λ i. loss_of (D.meaning d.now) i (f i)) (attributes (D.meaning d.now))) }
+    ensures bound { result ≤ full_loss * known_count (D.meaning d.now) }
+{
+    // By a loop: in a chain's closure `range` would have to answer every number.
+    let mut sum = 0;
     for i in 0..d.width().min(PLACES) {
-        bounds[i] = d.join(i, bounds[i], Range::point(values[i]));
+        sum += d.loss(i, range(i));
     }
+    sum
 }
 
 // The sum of the losses of its ranges.
@@ -51,22 +58,16 @@ pub fn box_loss<D: Domain>(d: &D, bounds: &[Range; PLACES]) -> u32
     ensures bound { result ≤ full_loss * known_count (D.meaning d.now) }
     ensures least { Allowed (D.meaning d.now) bounds.now → LosesLeast (D.meaning d.now) bounds.now result }
 {
-    let mut sum = 0;
-    for i in 0..d.width().min(PLACES) {
-        sum += d.loss(i, bounds[i]);
-    }
-    sum
+    box_loss_by(d, |i| bounds[i])
 }
 
 // Whether the box covers the values of the known attributes.
 pub fn covers<D: Domain>(d: &D, bounds: &[Range; PLACES], values: &[u32; PLACES]) -> bool
     ensures { result ≡ boxes.covers (D.meaning d.now) bounds.now values.now }
 {
-    let n = d.width().min(PLACES);
-    for i in 0..n {
-        if !bounds[i].covers(values[i]) {
-            return false;
-        }
-    }
-    true
+    bounds
+        .iter()
+        .zip(values)
+        .take(d.width())
+        .all(|(range, v)| range.covers(*v))
 }

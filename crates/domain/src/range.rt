@@ -18,7 +18,7 @@ impl Range {
     pub fn covers(self, v: u32) -> bool
         ensures { result ≡ within self v }
     {
-        self.low <= v && v <= self.high
+        (self.low..=self.high).contains(&v)
     }
 
     pub fn is_inside(self, other: Range) -> bool
