@@ -3,6 +3,7 @@ use Rattle.std.proofs.Common.{◌≡◌, ℕ, ◌-◌, true, ◌&&◌, ◌||◌,
 use mathlib.Core.Bool.{Bool-set}
 use Rattle.std.specs.List.{list_any}
 use Rattle.std.proofs.lemmas.Bool.{and_parts, and_from, cond-true}
+use Rattle.std.proofs.lemmas.List.Folds.{list_all-append}
 use Rattle.std.proofs.lemmas.Bool.Decides.{nat_tests}
 use Rattle.domain.specs.declared.range.Range.{Range}
 use Rattle.domain.specs.Boxes.{all_pass}
@@ -48,10 +49,7 @@ taxonomy_is t m gs e p q =
 -- ---- one group more
 
 all_pass_push : (g x : Range) (hs : List Range) → all_pass (nested g) hs ≡ true → nested g x ≡ true → all_pass (nested g) (hs ++ (x ∷ [])) ≡ true
-all_pass_push g x [] e f = and_from (nested g x) true f refl
-all_pass_push g x (h ∷ hs) e f =
-    let q = and_parts (nested g h) (all_pass (nested g) hs) e in
-    and_from (nested g h) (all_pass (nested g) (hs ++ (x ∷ []))) q.0 (all_pass_push g x hs q.1 f)
+all_pass_push g x hs e f = list_all-append (nested g) hs (x ∷ []) ∙ and_from (all_pass (nested g) hs) (nested g x && true) e (and_from (nested g x) true f refl)
 
 pub well_nested_push : (m : ℕ) (gs : List Range) (x : Range) → well_nested m gs ≡ true → in_tree m x ≡ true → all_pass (λ h. nested h x) gs ≡ true → well_nested m (gs ++ (x ∷ [])) ≡ true
 well_nested_push m [] x e k f = and_from (in_tree m x) true k refl

@@ -12,12 +12,14 @@ ghost use Rattle.domain.specs.JoinsLemmas as Joins;
 use crate::{MOST_GROUPS, MOST_LEAVES, Taxonomy};
 use domain::{Domain, Interval, Range};
 use std::alloc::Global;
-use std::fmt;
+use thiserror::Error;
 
 // Why no taxonomy was made.
-#[derive(Debug, Clone, Copy, PartialEq, Eq)]
+#[derive(Debug, Clone, Copy, PartialEq, Eq, Error)]
 pub enum TaxonomyFault {
+    #[error("a taxonomy has 1 to 256 leaves")]
     LeafCount,
+    #[error("there is no memory for the taxonomy's groups")]
     Memory,
 }
 
@@ -33,20 +35,14 @@ impl TaxonomyFault {
     }
 }
 
-impl fmt::Display for TaxonomyFault {
-    fn fmt<W: fmt::Write>(&self, f: &mut fmt::Formatter<W>) -> fmt::Result {
-        match self {
-            TaxonomyFault::LeafCount => write!(f, "a taxonomy has 1 to 256 leaves"),
-            TaxonomyFault::Memory => write!(f, "there is no memory for the taxonomy's groups"),
-        }
-    }
-}
-
 // Why a group was not added.
-#[derive(Debug, Clone, Copy, PartialEq, Eq)]
+#[derive(Debug, Clone, Copy, PartialEq, Eq, Error)]
 pub enum GroupFault {
+    #[error("a group takes in two or more leaves of the taxonomy, and must be new to it")]
     NoNewGroup,
+    #[error("the group overlaps another in part")]
     Overlaps,
+    #[error("the taxonomy has 32 groups, and takes no more")]
     Full,
 }
 
@@ -58,19 +54,6 @@ impl GroupFault {
             GroupFault::NoNewGroup => 5,
             GroupFault::Overlaps => 6,
             GroupFault::Full => 7,
-        }
-    }
-}
-
-impl fmt::Display for GroupFault {
-    fn fmt<W: fmt::Write>(&self, f: &mut fmt::Formatter<W>) -> fmt::Result {
-        match self {
-            GroupFault::NoNewGroup => write!(
-                f,
-                "a group takes in two or more leaves of the taxonomy, and must be new to it"
-            ),
-            GroupFault::Overlaps => write!(f, "the group overlaps another in part"),
-            GroupFault::Full => write!(f, "the taxonomy has 32 groups, and takes no more"),
         }
     }
 }
@@ -101,10 +84,8 @@ impl Taxonomy {
         if leaves == 0 || leaves > MOST_LEAVES {
             return Err(TaxonomyFault::LeafCount);
         }
-        match Vec::with_capacity(heap, MOST_GROUPS) {
-            Ok(groups) => Ok(Taxonomy { leaves, groups }),
-            Err(_) => Err(TaxonomyFault::Memory),
-        }
+        let groups = Vec::with_capacity(heap, MOST_GROUPS).map_err(|_| TaxonomyFault::Memory)?;
+        Ok(Taxonomy { leaves, groups })
     }
 
     fn whole(&self) -> Range
@@ -127,21 +108,15 @@ impl Taxonomy {
         ensures value { result ≡ allowed (leaves_of self.now) (groups_of self.now) a }
         ensures nests { result ≡ true → (b : Range) → allowed (leaves_of self.now) (groups_of self.now) b ≡ true → nested a b ≡ true }
     {
-        if a.low > a.high || a.high >= self.leaves {
-            return false;
-        }
-        a.low == a.high || (a.low == 0 && a.high == self.leaves - 1) || self.has_group(a)
+        a.low <= a.high
+            && a.high < self.leaves
+            && (a.low == a.high || a == self.whole() || self.has_group(a))
     }
 
     fn nests(&self, group: Range) -> bool
         ensures { result ≡ all_pass (λ h. nested h group) (groups_of self.now) }
     {
-        for g in self.groups.iter() {
-            if !are_nested(*g, group) {
-                return false;
-            }
-        }
-        true
+        self.groups.iter().all(|g| are_nested(*g, group))
     }
 
     // Adds a group, or says why not, and then leaves the taxonomy as it is.
@@ -167,17 +142,14 @@ impl Taxonomy {
         ensures { result ≡ covers.cover (leaves_of self.now) (groups_of self.now) a b }
     {
         if b.is_inside(a) {
-            return a;
+            a
+        } else {
+            self.groups
+                .iter()
+                .fold(self.whole(), |best, g| narrower(a, b, best, *g))
         }
-        let mut best = self.whole();
-        for g in self.groups.iter() {
-            best = narrower(a, b, best, *g);
-        }
-        best
     }
-}
 
-impl Taxonomy {
     // The loss of an allowed range, which is that in the interval of the leaves.
     fn share(&self, a: Range) -> u32
         ensures { allowed (leaves_of self.now) (groups_of self.now) a ≡ true → result ≡ share (whole (leaves_of self.now)) a }
@@ -186,6 +158,7 @@ impl Taxonomy {
     }
 }
 
+// By hand, as `Interval` is a domain.
 impl Domain for Taxonomy {
     ghost meaning = { taxonomy_of };
 

@@ -4,8 +4,8 @@ use Rattle.taxonomy.specs.Taxonomy.{leaves_of, groups_of}
 use Rattle.taxonomy.specs.TaxonomyFacts.{allowed_nested}
 use Rattle.taxonomy.proofs.Taxonomy.allows.Goals as goal
 
-pub returns-else-a-self-2 : goal.returns-else-a-self-2
-returns-else-a-self-2 c =
+pub returns-else-eq : goal.returns-else-eq
+returns-else-eq c =
     let t = c.args.self.now in
     let a = c.args.a in
     let v : c.has_group.result ≡ allowed (leaves_of t) (groups_of t) a = search rules in
