@@ -1,9 +1,9 @@
 -- The reading and the grammar agree. Assumes nothing.
-use Rattle.std.proofs.Common.{◌≡◌, ℕ, zero, suc, ◌<◌, true, false, ◌&&◌, eqb, List, [], ◌∷◌, ◌++◌, length, get_or, drop, sym, refl, ap, ◌∙◌, subst, inl, inr, ⊎_elim, append_assoc, append-nil, arith, length-drop}
+use Rattle.std.proofs.Common.{◌≡◌, ℕ, zero, suc, ◌<◌, true, false, ◌&&◌, eqb, List, [], ◌∷◌, ◌++◌, length, get_or, drop, sym, refl, ap, ◌∙◌, subst, inl, inr, ⊎_elim, append_assoc, append-nil, arith, length-drop, Ok, Err}
 use Rattle.std.proofs.lemmas.List.{drop_at, take_at}
 use Rattle.std.proofs.lemmas.Bool.{cases_Bool, cond-true, cond-false, both_ways, and_parts, or_cases, eqb-true, eq-eqb}
 use Rattle.std.proofs.lemmas.Bool.Decides.{nat_tests}
-use Rattle.rfc4180.specs.declared.fields.Extent.TheVariants.{Ends, Offends}
+use Rattle.rfc4180.specs.declared.fields.RunFault.TheVariants.{Offends}
 use Rattle.rfc4180.specs.Grammar.{plain, inside, FieldText, plainly, quoted, Plain, Inside, empty, one, doubled, Lawful, AllLawful, written, with_commas, LineEnd, Derives}
 use Rattle.rfc4180.specs.Reading.{begins_with_lf, stops, further, plain_extent, quoted_extent, mark_extent, Wrong, FieldRead, whole, faulty, as_plain, as_quoted, read_field, LineRead, cut, damaged, before, behind_field, after_field, read_line}
 use Rattle.rfc4180.proofs.Extents.{further_none, further_further}
@@ -27,7 +27,7 @@ pub inside_prefix : (rest : List ℕ) {bs : List ℕ} → Inside bs → quoted_e
 inside_prefix rest empty = sym (further_none (quoted_extent rest))
 inside_prefix rest (one {b} {bs} i q) =
     cond-false (eqb b 34) (mark_extent (bs ++ rest)) _ (no_mark b i)
-    ∙ cond-true (inside b) (further 1 (quoted_extent (bs ++ rest))) (Offends 0) i
+    ∙ cond-true (inside b) (further 1 (quoted_extent (bs ++ rest))) (Err (Offends 0)) i
     ∙ ap (further 1) (inside_prefix rest q) ∙ further_further 1 (length bs) (quoted_extent rest)
     ∙ ap (λ n. further n (quoted_extent rest)) (omega arith)
 inside_prefix rest (doubled {b} {c} {bs} e f q) =
@@ -44,13 +44,13 @@ stop_plain b bs h = grind (arith, nat_tests)
 stop_mark : (b : ℕ) (bs : List ℕ) → stops (b ∷ bs) ≡ true → eqb b 34 ≡ false
 stop_mark b bs h = grind (arith, nat_tests)
 
-plain_stop : (rest : List ℕ) → stops rest ≡ true → plain_extent rest ≡ Ends 0
+plain_stop : (rest : List ℕ) → stops rest ≡ true → plain_extent rest ≡ Ok 0
 plain_stop [] h = refl
-plain_stop (b ∷ bs) h = cond-false (plain b) (further 1 (plain_extent bs)) _ (stop_plain b bs h) ∙ cond-true (stops (b ∷ bs)) (Ends 0) (Offends 0) h
+plain_stop (b ∷ bs) h = cond-false (plain b) (further 1 (plain_extent bs)) _ (stop_plain b bs h) ∙ cond-true (stops (b ∷ bs)) (Ok 0) (Err (Offends 0)) h
 
-mark_stop : (rest : List ℕ) → stops rest ≡ true → mark_extent rest ≡ Ends 0
+mark_stop : (rest : List ℕ) → stops rest ≡ true → mark_extent rest ≡ Ok 0
 mark_stop [] h = refl
-mark_stop (b ∷ bs) h = cond-false (eqb b 34) (further 2 (quoted_extent bs)) _ (stop_mark b bs h) ∙ cond-true (stops (b ∷ bs)) (Ends 0) (Offends 1) h
+mark_stop (b ∷ bs) h = cond-false (eqb b 34) (further 2 (quoted_extent bs)) _ (stop_mark b bs h) ∙ cond-true (stops (b ∷ bs)) (Ok 0) (Err (Offends 1)) h
 
 plain_mark : (b : ℕ) → plain b ≡ true → eqb b 34 ≡ false
 plain_mark b h = grind (arith, nat_tests)
@@ -68,11 +68,11 @@ first (b ∷ bs) rest a h = plain_mark b a.0
 pub field_reads : (f : FieldText) (rest : List ℕ) → Lawful f → stops rest ≡ true → read_field (written f ++ rest) ≡ whole f
 field_reads (plainly bs) rest l h =
     reads_plain (bs ++ rest) (first bs rest l h)
-    ∙ ap (as_plain (bs ++ rest)) (plain_prefix bs rest l ∙ ap (further (length bs)) (plain_stop rest h) ∙ ap Ends (omega arith))
+    ∙ ap (as_plain (bs ++ rest)) (plain_prefix bs rest l ∙ ap (further (length bs)) (plain_stop rest h) ∙ ap Ok (omega arith))
     ∙ ap (λ l. whole (plainly l)) (take_at bs rest (length bs) refl)
 field_reads (quoted bs) rest l h =
     ap (λ l. read_field (34 ∷ l)) (append_assoc bs (34 ∷ []) rest)
-    ∙ ap (as_quoted (bs ++ 34 ∷ rest)) (inside_prefix (34 ∷ rest) l ∙ ap (further (length bs)) (mark_stop rest h) ∙ ap Ends (omega arith))
+    ∙ ap (as_quoted (bs ++ 34 ∷ rest)) (inside_prefix (34 ∷ rest) l ∙ ap (further (length bs)) (mark_stop rest h) ∙ ap Ok (omega arith))
     ∙ ap (λ l. whole (quoted l)) (take_at bs (34 ∷ rest) (length bs) refl)
 
 -- a lawful field, and what is behind it

@@ -1,11 +1,10 @@
 -- Why a damaged line is none. Assumes nothing.
-use Rattle.std.proofs.Common.{◌≡◌, ℕ, suc, ◌+◌, ◌<◌, Bool, true, false, cond, ◌&&◌, eqb, ◌⊎◌, List, [], ◌∷◌, ◌++◌, length, get_or, take, drop, sym, refl, ap, ◌∙◌, subst, inl, inr, ⊎_elim, append_assoc, append-nil, add-suc, suc-add, zero-add, arith, length-append, drop-cons, take-suc}
+use Rattle.std.proofs.Common.{◌≡◌, ℕ, suc, ◌+◌, ◌<◌, Bool, true, false, cond, ◌&&◌, eqb, ◌⊎◌, List, [], ◌∷◌, ◌++◌, length, get_or, take, drop, sym, refl, ap, ◌∙◌, subst, inl, inr, ⊎_elim, append_assoc, append-nil, add-suc, suc-add, zero-add, arith, length-append, drop-cons, take-suc, Ok, Err}
 use Rattle.std.proofs.lemmas.List.{drop_at, length-take-le, get_or-append-add, drop-drop}
 use Rattle.std.proofs.lemmas.Bool.{cases_Bool, cond-true, cond-false, both_ways, and_parts, or_cases, or_parts, and_cases, eqb-true, eq-eqb, ne_eqb}
-use Rattle.rfc4180.specs.declared.fields.Extent.{Extent}
-use Rattle.rfc4180.specs.declared.fields.Extent.TheVariants.{Ends, Offends, Runs}
+use Rattle.rfc4180.specs.declared.fields.RunFault.TheVariants.{Offends, Runs}
 use Rattle.rfc4180.specs.Grammar.{plain, inside, FieldText, plainly, quoted, Plain, Inside, Lawful, AllLawful, written, with_commas}
-use Rattle.rfc4180.specs.Reading.{begins_with_lf, stops, further, plain_extent, quoted_extent, mark_extent, Wrong, not_allowed, unclosed, whole, faulty, as_plain, as_quoted, read_field, LineRead, cut, damaged, after_field, read_line, behind_line_end}
+use Rattle.rfc4180.specs.Reading.{Extent, begins_with_lf, stops, further, plain_extent, quoted_extent, mark_extent, Wrong, not_allowed, unclosed, whole, faulty, as_plain, as_quoted, read_field, LineRead, cut, damaged, after_field, read_line, behind_line_end}
 use Rattle.rfc4180.specs.Laws as laws
 use Rattle.rfc4180.specs.Laws.{Resumes, behind_first, at_end}
 use Rattle.rfc4180.proofs.Tells.{PlainOffends, InsideOffends, MarkOffends}
@@ -29,23 +28,23 @@ whole_line front last text l m e =
 
 -- Behind the offending byte y, whatever follows.
 
-plain_stuck : (bs : List ℕ) (y : ℕ) (more : List ℕ) → Plain bs → plain y ≡ false → stops (y ∷ more) ≡ false → plain_extent (bs ++ y ∷ more) ≡ Offends (length bs)
+plain_stuck : (bs : List ℕ) (y : ℕ) (more : List ℕ) → Plain bs → plain y ≡ false → stops (y ∷ more) ≡ false → plain_extent (bs ++ y ∷ more) ≡ Err (Offends (length bs))
 plain_stuck bs y more l p s =
     plain_prefix bs (y ∷ more) l
-    ∙ ap (further (length bs)) (cond-false (plain y) (further 1 (plain_extent more)) _ p ∙ cond-false (stops (y ∷ more)) (Ends 0) (Offends 0) s)
-    ∙ ap Offends (omega arith)
+    ∙ ap (further (length bs)) (cond-false (plain y) (further 1 (plain_extent more)) _ p ∙ cond-false (stops (y ∷ more)) (Ok 0) (Err (Offends 0)) s)
+    ∙ ap (λ n. Err (Offends n)) (omega arith)
 
-inside_stuck : {bs : List ℕ} (y : ℕ) (more : List ℕ) → Inside bs → inside y ≡ false → (y ≡ 34 → ⊥) → quoted_extent (bs ++ y ∷ more) ≡ Offends (length bs)
+inside_stuck : {bs : List ℕ} (y : ℕ) (more : List ℕ) → Inside bs → inside y ≡ false → (y ≡ 34 → ⊥) → quoted_extent (bs ++ y ∷ more) ≡ Err (Offends (length bs))
 inside_stuck {bs} y more l i n =
     inside_prefix (y ∷ more) l
-    ∙ ap (further (length bs)) (cond-false (eqb y 34) (mark_extent more) _ (ne_eqb y 34 n) ∙ cond-false (inside y) (further 1 (quoted_extent more)) (Offends 0) i)
-    ∙ ap Offends (omega arith)
+    ∙ ap (further (length bs)) (cond-false (eqb y 34) (mark_extent more) _ (ne_eqb y 34 n) ∙ cond-false (inside y) (further 1 (quoted_extent more)) (Err (Offends 0)) i)
+    ∙ ap (λ n. Err (Offends n)) (omega arith)
 
-mark_stuck : {bs : List ℕ} (y : ℕ) (more : List ℕ) → Inside bs → (y ≡ 34 → ⊥) → stops (y ∷ more) ≡ false → quoted_extent (bs ++ 34 ∷ y ∷ more) ≡ Offends (suc (length bs))
+mark_stuck : {bs : List ℕ} (y : ℕ) (more : List ℕ) → Inside bs → (y ≡ 34 → ⊥) → stops (y ∷ more) ≡ false → quoted_extent (bs ++ 34 ∷ y ∷ more) ≡ Err (Offends (suc (length bs)))
 mark_stuck {bs} y more l n s =
     inside_prefix (34 ∷ y ∷ more) l
-    ∙ ap (further (length bs)) (cond-false (eqb y 34) (further 2 (quoted_extent more)) _ (ne_eqb y 34 n) ∙ cond-false (stops (y ∷ more)) (Ends 0) (Offends 1) s)
-    ∙ ap Offends (omega arith)
+    ∙ ap (further (length bs)) (cond-false (eqb y 34) (further 2 (quoted_extent more)) _ (ne_eqb y 34 n) ∙ cond-false (stops (y ∷ more)) (Ok 0) (Err (Offends 1)) s)
+    ∙ ap (λ n. Err (Offends n)) (omega arith)
 
 -- a byte that stopped nothing in one text stops something in another only if it is a CR, and an LF follows
 stopped : (y : ℕ) (rest more : List ℕ) → stops (y ∷ rest) ≡ false → stops (y ∷ more) ≡ true → (y ≡ 13) × (begins_with_lf more ≡ true)
@@ -164,14 +163,14 @@ offends front tail n l s =
 -- An open field is closed only by a mark.
 
 abbrev closes : Extent → Bool
-closes (Ends n) = true
-closes (Offends n) = false
-closes (Runs n) = false
+closes (Ok n) = true
+closes (Err (Offends n)) = false
+closes (Err (Runs n)) = false
 
 closes_further : (k : ℕ) (e : Extent) → closes (further k e) ≡ closes e
-closes_further k (Ends n) = refl
-closes_further k (Offends n) = refl
-closes_further k (Runs n) = refl
+closes_further k (Ok n) = refl
+closes_further k (Err (Offends n)) = refl
+closes_further k (Err (Runs n)) = refl
 
 abbrev HasMark : List ℕ → Type 0
 HasMark more = (i : ℕ) × (i < length more) × (get_or more i 0 ≡ 34)
@@ -179,7 +178,7 @@ HasMark more = (i : ℕ) × (i < length more) × (get_or more i 0 ≡ 34)
 mark_or_open : (more : List ℕ) → HasMark more ⊎ (closes (quoted_extent more) ≡ false)
 mark_or_open [] = inr refl
 mark_or_open (b ∷ bs) =
-    let other = cond (inside b) (further 1 (quoted_extent bs)) (Offends 0) in
+    let other = cond (inside b) (further 1 (quoted_extent bs)) (Err (Offends 0)) in
     ⊎_elim
     (λ h. inl (0, omega arith, eqb-true b 34 h))
     (λ h.
@@ -188,16 +187,16 @@ mark_or_open (b ∷ bs) =
     (λ o. inr (
     ap closes (cond-false (eqb b 34) (mark_extent bs) other h)
     ∙ ⊎_elim
-    (λ i. ap closes (cond-true (inside b) (further 1 (quoted_extent bs)) (Offends 0) i) ∙ closes_further 1 (quoted_extent bs) ∙ o)
-    (λ i. ap closes (cond-false (inside b) (further 1 (quoted_extent bs)) (Offends 0) i))
+    (λ i. ap closes (cond-true (inside b) (further 1 (quoted_extent bs)) (Err (Offends 0)) i) ∙ closes_further 1 (quoted_extent bs) ∙ o)
+    (λ i. ap closes (cond-false (inside b) (further 1 (quoted_extent bs)) (Err (Offends 0)) i))
     (cases_Bool (inside b))))
     (mark_or_open bs))
     (cases_Bool (eqb b 34))
 
 open_faulty : (bs : List ℕ) (e : Extent) → closes e ≡ false → (w : Wrong) × (n : ℕ) × (as_quoted bs e ≡ faulty w n)
-open_faulty bs (Ends n) h = absurd (both_ways true h refl)
-open_faulty bs (Offends n) h = (not_allowed, 1 + n, refl)
-open_faulty bs (Runs n) h = (unclosed, 1 + n, refl)
+open_faulty bs (Ok n) h = absurd (both_ways true h refl)
+open_faulty bs (Err (Offends n)) h = (not_allowed, 1 + n, refl)
+open_faulty bs (Err (Runs n)) h = (unclosed, 1 + n, refl)
 
 unclosed_at : (front : List FieldText) (xs : List ℕ) → AllLawful front → Inside xs → laws.Unclosed (with_commas front ++ 34 ∷ xs) (length (with_commas front) + suc (length xs))
 unclosed_at front xs l i =

@@ -1,11 +1,10 @@
 -- What reading a field tells of the text at whose front it stands, and back. Assumes nothing.
-use Rattle.std.proofs.Common.{◌≡◌, ℕ, suc, ◌≤◌, true, eqb, List, [], ◌∷◌, ◌++◌, length, get_or, take, drop, sym, refl, ap, ◌∙◌, subst, ⊎_elim, append_assoc, one-add, arith, length-append, take-append-drop, drop-cons}
+use Rattle.std.proofs.Common.{◌≡◌, ℕ, suc, ◌≤◌, true, eqb, List, [], ◌∷◌, ◌++◌, length, get_or, take, drop, sym, refl, ap, ◌∙◌, subst, ⊎_elim, append_assoc, one-add, arith, length-append, take-append-drop, drop-cons, Ok, Err}
 use Rattle.std.proofs.lemmas.List.{length-take-le}
 use Rattle.std.proofs.lemmas.Bool.{cases_Bool, cond-true, cond-false, eqb-true, eqb-false}
-use Rattle.rfc4180.specs.declared.fields.Extent.{Extent}
-use Rattle.rfc4180.specs.declared.fields.Extent.TheVariants.{Ends, Offends, Runs}
+use Rattle.rfc4180.specs.declared.fields.RunFault.TheVariants.{Offends, Runs}
 use Rattle.rfc4180.specs.Grammar.{FieldText, quoted, Inside, Lawful, written}
-use Rattle.rfc4180.specs.Reading.{stops, plain_extent, quoted_extent, Wrong, not_allowed, unclosed, FieldRead, whole, faulty, as_plain, as_quoted, read_field}
+use Rattle.rfc4180.specs.Reading.{Extent, stops, plain_extent, quoted_extent, Wrong, not_allowed, unclosed, FieldRead, whole, faulty, as_plain, as_quoted, read_field}
 use Rattle.rfc4180.proofs.Tells.{PlainTells, PlainOffends, plain_tells, QuotedTells, InsideOffends, MarkOffends, quoted_tells}
 
 -- a lawful field stands at the front of text, and may end there
@@ -26,21 +25,21 @@ Tells text (whole f) = Stands text f
 Tells text (faulty w n) = Spoilt text w n
 
 as_plain_tells : (text : List ℕ) (e : Extent) → (get_or text 0 0 ≡ 34 → ⊥) → PlainTells text e → Tells text (as_plain text e)
-as_plain_tells text (Ends n) h t =
+as_plain_tells text (Ok n) h t =
     let size = length-take-le n text t.within in
     record {
       split = sym (ap (λ k. take n text ++ drop k text) size ∙ take-append-drop n text);
       lawful = t.bytes;
       stop = ap (λ k. stops (drop k text)) size ∙ t.stop;
     }
-as_plain_tells text (Offends n) h t = in_plain h t
-as_plain_tells text (Runs n) h t = absurd t
+as_plain_tells text (Err (Offends n)) h t = in_plain h t
+as_plain_tells text (Err (Runs n)) h t = absurd t
 
 size_quoted : (xs : List ℕ) (n : ℕ) → n ≤ length xs → length (written (quoted (take n xs))) ≡ suc (suc n)
 size_quoted xs n h = let size = length-take-le n xs h in simp length-append (omega arith)
 
 as_quoted_tells : (xs : List ℕ) (e : Extent) → QuotedTells xs e → Tells (34 ∷ xs) (as_quoted xs e)
-as_quoted_tells xs (Ends n) t =
+as_quoted_tells xs (Ok n) t =
     let size = size_quoted xs n (omega (arith, t.within)) in
     let within = t.within in
     let mark : drop n xs ≡ 34 ∷ drop (suc n) xs = drop-cons xs n 0 within ∙ ap (λ b. b ∷ drop (suc n) xs) t.mark in
@@ -49,10 +48,10 @@ as_quoted_tells xs (Ends n) t =
       lawful = t.bytes;
       stop = ap (λ k. stops (drop k (34 ∷ xs))) size ∙ t.stop;
     }
-as_quoted_tells xs (Offends n) t =
+as_quoted_tells xs (Err (Offends n)) t =
     subst (Spoilt (34 ∷ xs) not_allowed) (sym (one-add n))
     (⊎_elim (λ o. in_quotes o) (λ o. subst (λ k. Spoilt (34 ∷ xs) not_allowed (suc k)) (sym o.1) (behind_mark o.2)) t)
-as_quoted_tells xs (Runs n) t = subst (Spoilt (34 ∷ xs) unclosed) (ap suc (sym t.0) ∙ sym (one-add n)) (open_end t.1)
+as_quoted_tells xs (Err (Runs n)) t = subst (Spoilt (34 ∷ xs) unclosed) (ap suc (sym t.0) ∙ sym (one-add n)) (open_end t.1)
 
 pub field_tells : (text : List ℕ) → Tells text (read_field text)
 field_tells [] = record { split = refl; lawful = tt; stop = refl }

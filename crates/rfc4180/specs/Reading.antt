@@ -1,8 +1,8 @@
 -- How the first line of a text is read, so that it computes. Laws.antt says that it is what the grammar derives.
 -- Assumes nothing.
-use Rattle.std.specs.Prelude.{ℕ, zero, suc, ◌+◌, Bool, true, false, cond, ◌&&◌, ◌||◌, List, [], ◌∷◌, length, take, drop, ◌==◌}
-use Rattle.rfc4180.specs.declared.fields.Extent.{Extent}
-use Rattle.rfc4180.specs.declared.fields.Extent.TheVariants.{Ends, Offends, Runs}
+use Rattle.std.specs.Prelude.{Ok, Err, Result, ℕ, zero, suc, ◌+◌, Bool, true, false, cond, ◌&&◌, ◌||◌, List, [], ◌∷◌, length, take, drop, ◌==◌}
+use Rattle.rfc4180.specs.declared.fields.RunFault.{RunFault}
+use Rattle.rfc4180.specs.declared.fields.RunFault.TheVariants.{Offends, Runs}
 use Rattle.rfc4180.specs.Grammar.{plain, inside, FieldText, plainly, quoted, written}
 
 abbrev pub begins_with_lf : List ℕ → Bool
@@ -14,30 +14,34 @@ abbrev pub stops : List ℕ → Bool
 stops [] = true
 stops (b ∷ bs) = b == 44 || (b == 13 && begins_with_lf bs)
 
+-- how far a field's bytes go, or why they end no field, and behind how many of them that shows
+abbrev pub Extent : Type 0
+Extent = Result ℕ RunFault
+
 abbrev pub further : ℕ → Extent → Extent
-further k (Ends n) = Ends (k + n)
-further k (Offends n) = Offends (k + n)
-further k (Runs n) = Runs (k + n)
+further k (Ok n) = Ok (k + n)
+further k (Err (Offends n)) = Err (Offends (k + n))
+further k (Err (Runs n)) = Err (Runs (k + n))
 
 abbrev pub size : Extent → ℕ
-size (Ends n) = n
-size (Offends n) = n
-size (Runs n) = n
+size (Ok n) = n
+size (Err (Offends n)) = n
+size (Err (Runs n)) = n
 
 abbrev pub plain_extent : List ℕ → Extent
-plain_extent [] = Ends 0
-plain_extent (b ∷ bs) = cond (plain b) (further 1 (plain_extent bs)) (cond (stops (b ∷ bs)) (Ends 0) (Offends 0))
+plain_extent [] = Ok 0
+plain_extent (b ∷ bs) = cond (plain b) (further 1 (plain_extent bs)) (cond (stops (b ∷ bs)) (Ok 0) (Err (Offends 0)))
 
 abbrev mutual
   -- behind an opening mark
   pub quoted_extent : List ℕ → Extent
-  quoted_extent [] = Runs 0
-  quoted_extent (b ∷ bs) = cond (b == 34) (mark_extent bs) (cond (inside b) (further 1 (quoted_extent bs)) (Offends 0))
+  quoted_extent [] = Err (Runs 0)
+  quoted_extent (b ∷ bs) = cond (b == 34) (mark_extent bs) (cond (inside b) (further 1 (quoted_extent bs)) (Err (Offends 0)))
 
   -- behind a second mark, which closes the field unless another follows
   pub mark_extent : List ℕ → Extent
-  mark_extent [] = Ends 0
-  mark_extent (b ∷ bs) = cond (b == 34) (further 2 (quoted_extent bs)) (cond (stops (b ∷ bs)) (Ends 0) (Offends 1))
+  mark_extent [] = Ok 0
+  mark_extent (b ∷ bs) = cond (b == 34) (further 2 (quoted_extent bs)) (cond (stops (b ∷ bs)) (Ok 0) (Err (Offends 1)))
 
 pub data Wrong : Type 0 where
   not_allowed : Wrong
@@ -49,14 +53,14 @@ pub data FieldRead : Type 0 where
   faulty : Wrong → ℕ → FieldRead
 
 abbrev pub as_plain : List ℕ → Extent → FieldRead
-as_plain bs (Ends n) = whole (plainly (take n bs))
-as_plain bs (Offends n) = faulty not_allowed n
-as_plain bs (Runs n) = faulty unclosed n
+as_plain bs (Ok n) = whole (plainly (take n bs))
+as_plain bs (Err (Offends n)) = faulty not_allowed n
+as_plain bs (Err (Runs n)) = faulty unclosed n
 
 abbrev pub as_quoted : List ℕ → Extent → FieldRead
-as_quoted bs (Ends n) = whole (quoted (take n bs))
-as_quoted bs (Offends n) = faulty not_allowed (1 + n)
-as_quoted bs (Runs n) = faulty unclosed (1 + n)
+as_quoted bs (Ok n) = whole (quoted (take n bs))
+as_quoted bs (Err (Offends n)) = faulty not_allowed (1 + n)
+as_quoted bs (Err (Runs n)) = faulty unclosed (1 + n)
 
 -- the field at the front of a text
 abbrev pub read_field : List ℕ → FieldRead

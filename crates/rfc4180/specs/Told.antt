@@ -2,6 +2,8 @@
 use Rattle.std.specs.Prelude.{◌≡◌, ℕ, ◌+◌, ◌-◌, cond, List, [], ◌∷◌, ◌++◌, map, length, take, drop, Ok, Err, Result, ◌==◌}
 use Rattle.rfc4180.specs.declared.fields.Field.{Field}
 use Rattle.rfc4180.specs.declared.fields.Field.TheVariants.{Plain, Quoted}
+use Rattle.rfc4180.specs.declared.fields.RunFault.{RunFault}
+use Rattle.rfc4180.specs.declared.fields.RunFault.TheVariants.{Offends, Runs}
 use Rattle.rfc4180.specs.declared.faults.Location.{Location}
 use Rattle.rfc4180.specs.declared.faults.TextFault.{TextFault}
 use Rattle.rfc4180.specs.declared.faults.TextFault.TheVariants.{NotAllowed, Unclosed}
@@ -34,6 +36,11 @@ forward at n = record { line = at.line; column = at.column; byte = at.byte + n }
 abbrev pub text_fault : Location → Wrong → ℕ → TextFault
 text_fault at not_allowed n = NotAllowed (forward at n) at.byte
 text_fault at unclosed n = Unclosed (forward at n) at.byte
+
+-- the fault of such a field whose bytes begin so many bytes behind its first
+abbrev pub run_fault : Location → ℕ → RunFault → TextFault
+run_fault at marks (Offends n) = text_fault at not_allowed (marks + n)
+run_fault at marks (Runs n) = text_fault at unclosed (marks + n)
 
 abbrev pub field_answer : Location → FieldRead → Result FieldText TextFault
 field_answer at (whole f) = Ok f

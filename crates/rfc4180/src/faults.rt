@@ -3,6 +3,7 @@ ghost use Rattle.std.specs.Prelude.{◌≡◌, ◌+◌, ◌^◌, ◌<◌, Some};
 ghost use Rattle.rfc4180.specs.Faults.{text_diagnostic, faulty_field, layer_name};
 
 use std::fmt;
+use thiserror::Error;
 
 // A place in a text: lines and columns count from 1, bytes from 0.
 #[derive(Clone, Copy, Debug, PartialEq, Eq)]
@@ -19,9 +20,8 @@ impl Location {
         ensures { result ≡ record { line = self.line; column = self.column; byte = self.byte + bytes } }
     {
         Location {
-            line: self.line,
-            column: self.column,
             byte: self.byte + bytes,
+            ..self
         }
     }
 
@@ -31,9 +31,9 @@ impl Location {
         ensures { result ≡ record { line = self.line; column = self.column + 1; byte = end + 1 } }
     {
         Location {
-            line: self.line,
             column: self.column + 1,
             byte: end + 1,
+            ..self
         }
     }
 }
@@ -68,9 +68,11 @@ pub struct Diagnostic {
 
 // Each fault has the place of the offending byte, and the first byte of the field that it spoils:
 // the next line is looked for from there on.
-#[derive(Clone, Copy, Debug, PartialEq, Eq)]
+#[derive(Clone, Copy, Debug, PartialEq, Eq, Error)]
 pub enum TextFault {
+    #[error("a character that may not stand there")]
     NotAllowed { at: Location, field: usize },
+    #[error("a quotation mark is never closed")]
     Unclosed { at: Location, field: usize },
 }
 
@@ -78,17 +80,14 @@ impl TextFault {
     pub fn diagnostic(&self) -> Diagnostic
         ensures { result ≡ text_diagnostic self.now }
     {
-        match *self {
-            TextFault::NotAllowed { at, .. } => Diagnostic {
-                number: 9,
-                layer: Layer::Text,
-                at,
-            },
-            TextFault::Unclosed { at, .. } => Diagnostic {
-                number: 11,
-                layer: Layer::Text,
-                at,
-            },
+        let (number, at) = match *self {
+            TextFault::NotAllowed { at, .. } => (9, at),
+            TextFault::Unclosed { at, .. } => (11, at),
+        };
+        Diagnostic {
+            number,
+            layer: Layer::Text,
+            at,
         }
     }
 
@@ -98,15 +97,6 @@ impl TextFault {
         match *self {
             TextFault::NotAllowed { field, .. } => field,
             TextFault::Unclosed { field, .. } => field,
-        }
-    }
-}
-
-impl fmt::Display for TextFault {
-    fn fmt<W: fmt::Write>(&self, f: &mut fmt::Formatter<W>) -> fmt::Result {
-        match self {
-            TextFault::NotAllowed { .. } => write!(f, "a character that may not stand there"),
-            TextFault::Unclosed { .. } => write!(f, "a quotation mark is never closed"),
         }
     }
 }

@@ -1,9 +1,9 @@
 // One field at the front of a text.
-ghost use Rattle.std.specs.Prelude.{◌≡◌, ◌+◌, ◌<◌, ◌≤◌, length, drop};
+ghost use Rattle.std.specs.Prelude.{◌≡◌, ◌+◌, ◌^◌, ◌<◌, ◌≤◌, length, drop};
 ghost use Rattle.rfc4180.specs.Grammar.{plain, inside, quoted, written};
 ghost use Rattle.rfc4180.specs.Reading.{stops, size, plain_extent, quoted_extent, read_field};
-ghost use Rattle.rfc4180.specs.Told.{content, field_text, told_field, field_answer, field_size};
-ghost use Rattle.rfc4180.specs.declared.fields.Extent.TheVariants.{Ends, Offends, Runs};
+ghost use Rattle.rfc4180.specs.declared.fields.RunFault.TheVariants.{Offends, Runs};
+ghost use Rattle.rfc4180.specs.Told.{content, field_text, told_field, field_answer, field_size, run_fault};
 
 use crate::faults::{Location, TextFault};
 
@@ -36,104 +36,93 @@ impl<'a> Field<'a> {
     }
 }
 
+// A function of its own, since a slice that is a parameter is known to leave room for the marks in a `usize`.
 fn size_with_marks(inside: &[u8]) -> usize
     ensures { result ≡ length (written (quoted inside.now)) }
 {
     inside.len() + 2
 }
 
-// How far the bytes of a field go, and what stands behind them: its end, an offending byte, or,
+// Why the bytes of a field do not end one, and how many of them stand before that shows: an offending byte, or,
 // inside quotation marks, the end of the text.
 #[derive(Clone, Copy, Debug, PartialEq, Eq)]
-pub(crate) enum Extent {
-    Ends(usize),
+pub(crate) enum RunFault {
     Offends(usize),
     Runs(usize),
+}
+
+impl RunFault {
+    // The fault of the field at `field`, whose bytes begin `marks` bytes behind its first.
+    fn in_field(self, field: Location, marks: usize) -> TextFault
+        requires { field.byte + (marks + size (Err self)) < 2 ^ 64 }
+        ensures { result ≡ run_fault field marks self }
+    {
+        match self {
+            RunFault::Offends(n) => TextFault::NotAllowed {
+                at: field.forward(marks + n),
+                field: field.byte,
+            },
+            RunFault::Runs(n) => TextFault::Unclosed {
+                at: field.forward(marks + n),
+                field: field.byte,
+            },
+        }
+    }
 }
 
 fn is_plain(b: u8) -> bool
     ensures { result ≡ plain b }
 {
-    32 <= b && b <= 126 && b != b'"' && b != b','
+    (32..=126).contains(&b) && b != b'"' && b != b','
 }
 
 fn is_inside(b: u8) -> bool
     ensures { result ≡ inside b }
 {
-    is_plain(b) || b == b',' || b == b'\r' || b == b'\n'
+    is_plain(b) || matches!(b, b',' | b'\r' | b'\n')
 }
 
 // Whether a field may end before `rest`.
 fn stops_before(rest: &[u8]) -> bool
     ensures { result ≡ stops rest.now }
 {
-    match rest {
-        [] => true,
-        [b',', ..] => true,
-        [b'\r', b'\n', ..] => true,
-        [_, ..] => false,
-    }
+    matches!(rest, [] | [b',', ..] | [b'\r', b'\n', ..])
 }
 
-fn plain_run(text: &[u8]) -> Extent
+fn plain_run(text: &[u8]) -> Result<usize, RunFault>
     ensures value { result ≡ plain_extent text.now }
     ensures within { size result ≤ length text.now }
 {
-    let mut rest = text;
-    let mut n = 0;
-    while let [b, tail @ ..] = rest {
-        if !is_plain(*b) {
-            break;
-        }
-        n += 1;
-        rest = tail;
-    }
-    if stops_before(rest) {
-        Extent::Ends(n)
+    let n = text.iter().take_while(|b| is_plain(**b)).count();
+    if stops_before(&text[n..]) {
+        Ok(n)
     } else {
-        Extent::Offends(n)
+        Err(RunFault::Offends(n))
     }
 }
 
 // Goes on behind an opening mark.
-fn quoted_run(text: &[u8]) -> Extent
+fn quoted_run(text: &[u8]) -> Result<usize, RunFault>
     ensures value { result ≡ quoted_extent text.now }
-    ensures within { elim result [ Ends n ↦ n < length text.now | Offends n ↦ n ≤ length text.now | Runs n ↦ n ≡ length text.now ] }
+    ensures within { elim result [ Ok n ↦ n < length text.now | Err e ↦ elim e [ Offends n ↦ n ≤ length text.now | Runs n ↦ n ≡ length text.now ] ] }
 {
     let mut rest = text;
-    let mut n = 0;
     loop {
-        match rest {
+        let n = text.len() - rest.len();
+        rest = match rest {
+            [b'"', b'"', tail @ ..] => tail,
             [b'"', behind @ ..] => {
-                let [b'"', tail @ ..] = behind else {
-                    return if stops_before(behind) {
-                        Extent::Ends(n)
-                    } else {
-                        Extent::Offends(n + 1)
-                    };
+                return if stops_before(behind) {
+                    Ok(n)
+                } else {
+                    Err(RunFault::Offends(n + 1))
                 };
-                n += 2;
-                rest = tail;
             }
-            [b, tail @ ..] => {
-                if !is_inside(*b) {
-                    return Extent::Offends(n);
-                }
-                n += 1;
-                rest = tail;
-            }
-            [] => return Extent::Runs(n),
-        }
+            [b, tail @ ..] if is_inside(*b) => tail,
+            [_, ..] => return Err(RunFault::Offends(n)),
+            [] => return Err(RunFault::Runs(n)),
+        };
     }
-}
-
-// What stands in `text` from `at` on.
-pub(crate) fn behind(text: &[u8], at: usize) -> &[u8]
-    requires { at ≤ length text.now }
-    ensures value { result.now ≡ drop at text.now }
-    ensures len { length result.now + at ≡ length text.now }
-{
-    &text[at..]
 }
 
 // The field of `text` that begins at `at`.
@@ -142,30 +131,12 @@ pub(crate) fn field_at(text: &[u8], at: Location) -> Result<Field<'_>, TextFault
     ensures told { told_field result ≡ field_answer at (read_field (drop at.byte text.now)) }
     ensures within { at.byte + field_size result ≤ length text.now }
 {
-    let rest = behind(text, at.byte);
-    let field = at.byte;
-    match rest {
-        [b'"', tail @ ..] => match quoted_run(tail) {
-            Extent::Ends(n) => Ok(Field::Quoted(&tail[0..n])),
-            Extent::Offends(n) => Err(TextFault::NotAllowed {
-                at: at.forward(1 + n),
-                field,
-            }),
-            Extent::Runs(n) => Err(TextFault::Unclosed {
-                at: at.forward(1 + n),
-                field,
-            }),
-        },
-        _ => match plain_run(rest) {
-            Extent::Ends(n) => Ok(Field::Plain(&rest[0..n])),
-            Extent::Offends(n) => Err(TextFault::NotAllowed {
-                at: at.forward(n),
-                field,
-            }),
-            Extent::Runs(n) => Err(TextFault::Unclosed {
-                at: at.forward(n),
-                field,
-            }),
-        },
+    let rest = &text[at.byte..];
+    if let [b'"', inside @ ..] = rest {
+        let n = quoted_run(inside).map_err(|fault| fault.in_field(at, 1))?;
+        Ok(Field::Quoted(&inside[..n]))
+    } else {
+        let n = plain_run(rest).map_err(|fault| fault.in_field(at, 0))?;
+        Ok(Field::Plain(&rest[..n]))
     }
 }

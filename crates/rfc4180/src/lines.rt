@@ -5,7 +5,7 @@ ghost use Rattle.rfc4180.specs.Reading.{read_line, behind_line_end};
 ghost use Rattle.rfc4180.specs.Told.{delimiter, fields_of, line_answer, Filled};
 
 use crate::faults::{Location, TextFault};
-use crate::fields::{Field, behind, field_at};
+use crate::fields::{Field, field_at};
 
 // A line that was read: how many fields it has, and the first byte behind its end.
 #[derive(Clone, Copy, Debug, PartialEq, Eq)]
@@ -26,14 +26,14 @@ fn delimiter_at(text: &[u8], at: usize) -> Delimiter
     requires { at ≤ length text.now }
     ensures { result ≡ delimiter (drop at text.now) }
 {
-    match behind(text, at) {
+    match &text[at..] {
         [] => Delimiter::TextEnd,
         [b',', ..] => Delimiter::Comma,
         [_, ..] => Delimiter::LineEnd,
     }
 }
 
-// Puts `field` at the place `i`, if there is one.
+// Puts `field` at the place `i`, if there is one. By index, since a write by `get_mut` tells a proof no element.
 fn put<'a>(fields: &mut [Field<'a>], i: usize, field: Field<'a>)
     ensures { fields.new ≡ slice_set fields.old i field.entry }
 {
@@ -47,13 +47,13 @@ pub fn next_line(text: &[u8], from: usize) -> usize
     ensures value { result ≡ length text.now - length (behind_line_end (drop from text.now)) }
     ensures first { Resumes (drop from text.now) (drop result text.now) }
 {
-    let mut rest = behind(text, from.min(text.len()));
-    loop {
-        match rest {
-            [b'\r', b'\n', tail @ ..] => return text.len() - tail.len(),
-            [_, tail @ ..] => rest = tail,
-            [] => return text.len(),
-        }
+    let start = from.min(text.len());
+    let line_end = text[start..]
+        .windows(2)
+        .position(|pair| pair == b"\r\n".as_slice());
+    match line_end {
+        Some(i) => start + i + 2,
+        None => text.len(),
     }
 }
 
