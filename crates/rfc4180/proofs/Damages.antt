@@ -19,7 +19,7 @@ spoilt_line front tail w n l e h =
     let a : read_line (with_commas front ++ tail) ≡ damaged front w n =
     front_reads front tail l ∙ ap (in_front front) (line_step tail ∙ ap (after_field read_line tail) e) ∙ front_damaged front [] w n ∙ ap (λ x. damaged x w n) (append-nil front) in
     let b = derived_reads _ h.front h.last h.rest h.derives in
-    let z : ◌≡◌ {A = ℕ} 0 1 = cc in omega arith
+    cc
 
 -- a line that ends with the text
 whole_line : (front : List FieldText) (last : FieldText) (text : List ℕ) → AllLawful front → Lawful last → text ≡ with_commas front ++ written last → laws.HasLine text
@@ -232,7 +232,7 @@ means text (damaged front w n) t =
       no_more = λ f rest l e.
           let a = t.spoilt in
           let b : read_field t.tail ≡ whole f = ap read_field e ∙ field_reads f (44 ∷ rest) l refl in
-          let z : ◌≡◌ {A = ℕ} 0 1 = cc in omega arith;
+          cc;
       because = subst (λ x. laws.Because w x (length (with_commas front) + n)) (sym t.split) (because front t.tail w n t.lawful spoilt);
     }
 
@@ -250,8 +250,8 @@ no_line_end_cons b bs h none [] rest e =
 no_line_end_cons b bs h none (c ∷ front) rest e = let y : bs ≡ front ++ 13 ∷ 10 ∷ rest = cc in none front rest y
 
 none_in_nothing : laws.NoLineEnd []
-none_in_nothing [] rest e = let z : ◌≡◌ {A = ℕ} 0 1 = cc in omega arith
-none_in_nothing (c ∷ front) rest e = let z : ◌≡◌ {A = ℕ} 0 1 = cc in omega arith
+none_in_nothing [] rest e = cc
+none_in_nothing (c ∷ front) rest e = cc
 
 none_in_cr : laws.NoLineEnd (13 ∷ [])
 none_in_cr = no_line_end_cons 13 [] refl none_in_nothing

@@ -1,4 +1,4 @@
--- How far a field's bytes go: one step of the definitions, at a first byte and what is behind it. Assumes nothing.
+-- How far a field's bytes go: one run behind another, and the run of a plain field. Assumes nothing.
 use Rattle.std.proofs.Common.{⊎_elim, one-add, ◌≡◌, ℕ, ◌+◌, ◌-◌, Bool, true, false, cond, List, [], ◌∷◌, length, take, drop, sym, refl, ap, ◌∙◌, arith, Ok, Err}
 use Rattle.std.proofs.lemmas.List.{take_rest}
 use Rattle.std.proofs.lemmas.Bool.{cases_Bool, cond-true, cond-false}

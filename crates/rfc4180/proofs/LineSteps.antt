@@ -90,13 +90,13 @@ pub place_is : (p l i : ℕ) (r : Option ℕ) → r ≡ cond (ltb p l) (Some p) 
 place_is p l i r e f =
     ⊎_elim
     (λ h. let g = cond-true (ltb p l) (Some p) None (lt-ltb p l h) in (let z : i ≡ p = cc in z, h))
-    (λ h. let g = cond-false (ltb p l) (Some p) None (le-ltb p l h) in let z : ◌≡◌ {A = ℕ} 0 1 = cc in absurd (omega arith))
+    (λ h. let g = cond-false (ltb p l) (Some p) None (le-ltb p l h) in absurd cc)
     (cases_lt p l)
 
 pub no_place : (p l : ℕ) (r : Option ℕ) → r ≡ cond (ltb p l) (Some p) None → r ≡ None → l ≤ p
 no_place p l r e f =
     ⊎_elim
-    (λ h. let g = cond-true (ltb p l) (Some p) None (lt-ltb p l h) in let z : ◌≡◌ {A = ℕ} 0 1 = cc in absurd (omega arith))
+    (λ h. let g = cond-true (ltb p l) (Some p) None (lt-ltb p l h) in absurd cc)
     (λ h. h)
     (cases_lt p l)
 

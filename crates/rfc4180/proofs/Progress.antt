@@ -117,11 +117,11 @@ record AtComma (g : FieldText) (ys : List ℕ) : Type 0 where
   goes : behind_field read_line g ys ≡ before g (read_line (drop 1 ys))
 
 at_comma : (g : FieldText) (ys : List ℕ) → delimiter ys ≡ Comma → AtComma g ys
-at_comma g [] d = let z : ◌≡◌ {A = ℕ} 0 1 = cc in absurd (omega arith)
+at_comma g [] d = absurd cc
 at_comma g (b ∷ bs) d =
     ⊎_elim
     (λ h. record { more = omega arith; goes = cond-true (eqb b 44) (before g (read_line bs)) (cut [] g (drop 1 bs)) h })
-    (λ h. let e = cond-false (eqb b 44) Comma LineEnd h in let z : ◌≡◌ {A = ℕ} 0 1 = cc in absurd (omega arith))
+    (λ h. let e = cond-false (eqb b 44) Comma LineEnd h in absurd cc)
     (cases_Bool (eqb b 44))
 
 record AtLineEnd (g : FieldText) (ys : List ℕ) : Type 0 where
@@ -129,14 +129,14 @@ record AtLineEnd (g : FieldText) (ys : List ℕ) : Type 0 where
   goes : behind_field read_line g ys ≡ cut [] g (drop 2 ys)
 
 lf_some : (bs : List ℕ) → begins_with_lf bs ≡ true → 1 ≤ length bs
-lf_some [] h = let z : ◌≡◌ {A = ℕ} 0 1 = cc in absurd (omega arith)
+lf_some [] h = absurd cc
 lf_some (b ∷ bs) h = omega arith
 
 at_line_end : (g : FieldText) (ys : List ℕ) → stops ys ≡ true → delimiter ys ≡ LineEnd → AtLineEnd g ys
-at_line_end g [] s d = let z : ◌≡◌ {A = ℕ} 0 1 = cc in absurd (omega arith)
+at_line_end g [] s d = absurd cc
 at_line_end g (b ∷ bs) s d =
     ⊎_elim
-    (λ h. let e = cond-true (eqb b 44) Comma LineEnd h in let z : ◌≡◌ {A = ℕ} 0 1 = cc in absurd (omega arith))
+    (λ h. let e = cond-true (eqb b 44) Comma LineEnd h in absurd cc)
     (λ h.
     let lf = ⊎_elim (λ c. absurd (both_ways (eqb b 44) h c)) (λ c. (and_parts (eqb b 13) (begins_with_lf bs) c).1) (or_cases (eqb b 44) (eqb b 13 && begins_with_lf bs) s) in
     record { more = omega (arith, lf_some bs lf); goes = cond-false (eqb b 44) (before g (read_line bs)) (cut [] g (drop 1 bs)) h })
@@ -146,18 +146,18 @@ at_text_end : (ys : List ℕ) → delimiter ys ≡ TextEnd → ys ≡ []
 at_text_end [] d = refl
 at_text_end (b ∷ bs) d =
     ⊎_elim
-    (λ h. let e = cond-true (eqb b 44) Comma LineEnd h in let z : ◌≡◌ {A = ℕ} 0 1 = cc in absurd (omega arith))
-    (λ h. let e = cond-false (eqb b 44) Comma LineEnd h in let z : ◌≡◌ {A = ℕ} 0 1 = cc in absurd (omega arith))
+    (λ h. let e = cond-true (eqb b 44) Comma LineEnd h in absurd cc)
+    (λ h. let e = cond-false (eqb b 44) Comma LineEnd h in absurd cc)
     (cases_Bool (eqb b 44))
 
 -- What `field_at` answered.
 
 pub read_whole : (at : Location) (r : FieldRead) (f : FieldText) → Ok f ≡ field_answer at r → r ≡ whole f
 read_whole at (whole g) f e = cc
-read_whole at (faulty w n) f e = let z : ◌≡◌ {A = ℕ} 0 1 = cc in absurd (omega arith)
+read_whole at (faulty w n) f e = absurd cc
 
 pub read_faulty : (at : Location) (r : FieldRead) (e : TextFault) → ◌≡◌ {A = Result FieldText TextFault} (Err e) (field_answer at r) → (w : Wrong) × (n : ℕ) × (r ≡ faulty w n) × (e ≡ text_fault at w n)
-read_faulty at (whole g) e h = let z : ◌≡◌ {A = ℕ} 0 1 = cc in absurd (omega arith)
+read_faulty at (whole g) e h = absurd cc
 read_faulty at (faulty w n) e h = (w, n, refl, cc)
 
 -- what `read_line` ensures
@@ -174,7 +174,7 @@ module _ {text : List ℕ} {place number : ℕ} {entry : List Field} {at : Locat
       let read : read_line (drop place text) ≡ damaged front w n =
       s.reads ∙ ap (in_front front) (line_step rest ∙ ap (after_field read_line rest) e) ∙ front_damaged front [] w n ∙ ap (λ l. damaged l w n) (append-nil front) in
       let near : place ≤ length text =
-      ⊎_elim (λ h. omega arith) (λ h. let none = ap read_line (drop_all place text h) in let z : ◌≡◌ {A = ℕ} 0 1 = cc in absurd (omega arith)) (cases_lt place (length text)) in
+      ⊎_elim (λ h. omega arith) (λ h. let none = ap read_line (drop_all place text h) in absurd cc) (cases_lt place (length text)) in
       let same : at.byte ≡ place + length (with_commas front) = s.byte ∙ ap (λ k. k + length (with_commas front)) (min-eq_left near) in
       let loc : at ≡ field_behind number place front = λ i. record { line = s.line i; column = s.column i; byte = same i } in
       record {

@@ -14,7 +14,7 @@ pub struct Location {
 }
 
 impl Location {
-    // The place `bytes` further on in the same field.
+    // The place `bytes` further on in the same field. What it requires is no invariant, since only the text bounds a place.
     pub(crate) fn forward(self, bytes: usize) -> Location
         requires { self.byte + bytes < 2 ^ 64 }
         ensures { result ≡ record { line = self.line; column = self.column; byte = self.byte + bytes } }
