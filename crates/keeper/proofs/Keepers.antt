@@ -1,7 +1,9 @@
 -- A keeper's places, as one list, and what an offer and a reading give. Assumes nothing.
-use Rattle.std.proofs.Common.{◌≡◌, ℕ, zero, suc, ◌+◌, ◌-◌, ◌≤◌, min, Bool, true, false, cond, List, [], ◌∷◌, ◌++◌, length, get_or, take, drop, replicate, filter, sym, refl, ap, ◌∙◌, subst, arith}
+use Rattle.std.proofs.Common.{◌≡◌, ℕ, zero, suc, ◌+◌, ◌-◌, ◌≤◌, min, Bool, true, false, cond, List, [], ◌∷◌, ◌++◌, length, take, drop, replicate, filter, sym, refl, ap, ◌∙◌, subst, arith}
+use Rattle.std.specs.Bool.{then_some}
+use Rattle.std.specs.Option.{option_to_list}
 use Rattle.std.specs.List.{prefix_len, AllByRecursion}
-use Rattle.std.proofs.lemmas.List.{append-nil, append_assoc, take_all, take_at, drop_at, drop_all, length_push, replicate_more, same_from_push}
+use Rattle.std.proofs.lemmas.List.{append-nil, append_assoc, take_all, take_at, drop_at, drop_all, length_push, length-replicate, replicate_more, same_from_push}
 use Rattle.std.proofs.ByRecursion.{All-push, all-has, has_push}
 use Rattle.keeper.specs.declared.Rank.{Rank}
 use Rattle.keeper.specs.Ranks.{lower}
@@ -14,14 +16,6 @@ use Rattle.keeper.proofs.Leasts.{length_leasts, all_leasts, least_leasts, only_l
 use Rattle.keeper.proofs.Puts.{put, all_put, length_put, put_in_order, leasts_push, put_before_marks}
 
 module _ {X : Type 0} (rank : X → Rank) (empty : X) where
-  -- a test against the mark
-  pub test_of : (mark x : X) (t : Bool) → mark ≡ empty → t ≡ lower (rank x) (rank mark) → lower (rank x) (rank empty) ≡ t
-  test_of mark x t e h = ap (λ m. lower (rank x) (rank m)) (sym e) ∙ sym h
-
-  -- the same of what was read at i
-  pub test_at : (places : List X) (i : ℕ) (mark x : X) (t : Bool) → mark ≡ empty → x ≡ get_or places i x → t ≡ lower (rank x) (rank mark) → lower (rank (get_or places i x)) (rank empty) ≡ t
-  test_at places i mark x t e r h = ap (λ y. lower (rank y) (rank empty)) (sym r) ∙ test_of mark x t e h
-
   -- the n places of a keeper of the given items
   abbrev pub kept : ℕ → List X → List X
   kept n given = leasts rank n given ++ replicate (n - length given) empty
@@ -37,6 +31,9 @@ module _ {X : Type 0} (rank : X → Rank) (empty : X) where
         stands = e ∙ ap (λ k. leasts rank n given ++ replicate k empty) m;
         above = a;
       }
+
+  pub keeps_nothing : (n : ℕ) (places : List X) → places ≡ replicate n empty → Keeps rank empty places []
+  keeps_nothing n places e = keeps_from places [] tt (e ∙ ap (λ m. replicate m empty) (omega (arith, ap length e, length-replicate n empty)) ∙ ap (λ l. l ++ replicate (length places - 0) empty) (sym (take_all (length places) [] (omega arith))))
 
   pub kept_from : (places given : List X) → Keeps rank empty places given → places ≡ kept (length places) given
   kept_from places given k =
@@ -115,14 +112,17 @@ module _ {X : Type 0} (rank : X → Rank) (empty : X) where
         put_out = o ∙ ap (drop n) (sym all);
       }
 
-  pub takes_from : (before given after : List X) (item carried : X) (out : List X) → lower (rank item) (rank empty) ≡ true → length after ≡ length before → put rank item before ≡ after ++ carried ∷ [] → out ≡ cond (lower (rank carried) (rank empty)) (carried ∷ []) [] → Keeps rank empty before given → Takes rank empty given before item after out
-  takes_from before given after item carried out l long e o k = go (n - length given) refl
+  pub takes_from : (before given after : List X) (item carried : X) (out : List X) → lower (rank item) (rank empty) ≡ true → put rank item before ≡ after ++ carried ∷ [] → out ≡ option_to_list (then_some (lower (rank carried) (rank empty)) carried) → Keeps rank empty before given → Takes rank empty given before item after out
+  takes_from before given after item carried out l e o k = go (n - length given) refl
     where
       n : ℕ
       n = length before
 
       h : List X
       h = leasts rank n given
+
+      long : length after ≡ n
+      long = omega (arith, length_put rank item before, ap length e, length_push after carried)
 
       parts : put rank item h ++ replicate (n - length given) empty ≡ after ++ carried ∷ []
       parts = sym (put_before_marks rank empty item l (n - length given) h) ∙ ap (put rank item) (sym (kept_from before given k)) ∙ e
@@ -135,7 +135,7 @@ module _ {X : Type 0} (rank : X → Rank) (empty : X) where
           all-has _ (after ++ carried ∷ []) carried (subst (AllByRecursion (λ x. lower (rank x) (rank empty) ≡ true)) whole (all_put rank _ item h l (all_leasts rank _ n given k.above))) (has_push after carried) in
           taken before given after item out l k long
           (sym (take_at after (carried ∷ []) n long) ∙ ap (take n) (sym whole) ∙ sym (leasts_push rank n item given) ∙ sym (append-nil _) ∙ ap (λ m. leasts rank n (given ++ item ∷ []) ++ replicate m empty) (sym full))
-          (o ∙ ap (λ t. cond t (carried ∷ []) []) low ∙ sym (drop_at after (carried ∷ []) n long) ∙ ap (drop n) (sym whole))
+          (o ∙ ap (λ t. option_to_list (then_some t carried)) low ∙ sym (drop_at after (carried ∷ []) n long) ∙ ap (drop n) (sym whole))
       go (suc m) f =
           let free : n - length given ≡ m + 1 = omega arith in
           let ends : (put rank item h ++ replicate m empty) ++ empty ∷ [] ≡ after ++ carried ∷ [] =
@@ -145,12 +145,4 @@ module _ {X : Type 0} (rank : X → Rank) (empty : X) where
           let free' : n - length (given ++ item ∷ []) ≡ m = omega (arith, length_push given item) in
           taken before given after item out l k long
           (sym apart.0 ∙ ap (λ r. r ++ replicate m empty) (sym (take_all n (put rank item h) short) ∙ sym (leasts_push rank n item given)) ∙ ap (λ j. leasts rank n (given ++ item ∷ []) ++ replicate j empty) (sym free'))
-          (o ∙ ap (λ x. cond (lower (rank x) (rank empty)) (x ∷ []) []) (sym apart.1) ∙ ap (λ t. cond t (empty ∷ []) []) (not_lower_itself (rank empty)) ∙ sym (drop_all n (put rank item h) short))
-
-  put_nowhere : (item : X) (places : List X) → AllByRecursion (λ x. lower (rank item) (rank x) ≡ false) places → put rank item places ≡ places ++ item ∷ []
-  put_nowhere item [] a = refl
-  put_nowhere item (x ∷ xs) a = ap (λ t. cond t (item ∷ x ∷ xs) (x ∷ put rank item xs)) a.0 ∙ ap (λ l. x ∷ l) (put_nowhere item xs a.1)
-
-  -- an item that none of the places gives way to
-  pub stays_from : (before after : List X) (item carried : X) → put rank item before ≡ after ++ carried ∷ [] → AllByRecursion (λ x. lower (rank item) (rank x) ≡ false) before → (after ≡ before) × (carried ≡ item)
-  stays_from before after item carried e a = same_from_push after before carried item (sym e ∙ put_nowhere item before a)
+          (o ∙ ap (λ x. option_to_list (then_some (lower (rank x) (rank empty)) x)) (sym apart.1) ∙ ap (λ t. option_to_list (then_some t empty)) (not_lower_itself (rank empty)) ∙ sym (drop_all n (put rank item h) short))

@@ -4,7 +4,7 @@
 // what it holds, in order of rank. Of places that were never cleared only what is said without `Keeps` is promised.
 #![tactic(auto)]
 
-ghost use Rattle.std.specs.Prelude.{◌≡◌, ℕ, ◌<◌, ◌≤◌, min, true, false, List, [], length, take, replicate, Some};
+ghost use Rattle.std.specs.Prelude.{◌≡◌, ℕ, ◌<◌, ◌≤◌, min, true, false, List, [], length, take, position, replicate, Some};
 ghost use Rattle.std.specs.Option.{option_to_list};
 ghost use Rattle.std.specs.List.{AllByRecursion};
 ghost use Rattle.keeper.specs.Keeping.{Keeps, Takes, Reads, count_in, items_in};
@@ -60,14 +60,28 @@ fn ranks_below<T: Ranked>(a: &T, b: &T) -> bool
     a.rank().is_below(b.rank())
 }
 
+// The empty mark is no item, nor is what ranks no lower.
+fn is_item<T: Ranked>(x: &T) -> bool
+    ensures { result ≡ lower (T.rank x.now) (T.rank T.empty) }
+{
+    ranks_below(x, &T::mark())
+}
+
+// Where the item belongs: at the first place that ranks above it.
+fn place_for<T: Ranked>(places: &[T], item: &T) -> Option<usize>
+    ensures { result ≡ position (λ x. lower (T.rank item.now) (T.rank x)) places.now }
+{
+    places.iter().position(|place| ranks_below(item, place))
+}
+
 // Makes the places a keeper to which nothing was given.
 pub fn clear<T: Ranked>(places: &mut [T])
     ensures fills { places.new ≡ replicate (length places.old) T.empty }
     ensures keeps { Keeps T.rank T.empty places.new [] }
 {
-    let mark = T::mark();
-    for place in places.iter_mut() {
-        *place = mark;
+    // Not by `fill`, which clones: a kind promises nothing of its clones.
+    for place in places {
+        *place = T::mark();
     }
 }
 
@@ -79,23 +93,17 @@ pub fn offer<T: Ranked>(places: &mut [T], item: T) -> Option<T>
     ensures no_item { lower (T.rank item) (T.rank T.empty) ≡ false → (places.new ≡ places.old) × (result ≡ Some item) }
     ensures every_item { T.offerable item → lower (T.rank item) (T.rank T.empty) ≡ true }
 {
-    let mark = T::mark();
-    if !ranks_below(&item, &mark) {
+    if !is_item(&item) {
         return Some(item);
     }
-    let mut out = item;
-    let mut found = false;
-    for place in places.iter_mut() {
-        // Once a place is found, each later item moves on by one, past its equals too.
-        if found || ranks_below(&out, place) {
-            found = true;
-            out = mem::replace(place, out);
+    match place_for(places, &item) {
+        Some(at) => {
+            // Those from there on move on by one, equals too, and the last goes without a place.
+            places[at..].rotate_right(1);
+            let out = mem::replace(&mut places[at], item);
+            is_item(&out).then_some(out)
         }
-    }
-    if ranks_below(&out, &mark) {
-        Some(out)
-    } else {
-        None
+        None => Some(item),
     }
 }
 
@@ -107,15 +115,7 @@ pub fn held<T: Ranked>(places: &[T]) -> usize
     ensures reads { (given : List T) → Keeps T.rank T.empty places.now given → Reads T.rank T.empty given places.now (take result places.now) }
     ensures computes { (by : T → Rank) (n : ℕ) (xs : List T) → Computes by n xs }
 {
-    let mark = T::mark();
-    let mut n = 0;
-    for place in places {
-        if !ranks_below(place, &mark) {
-            break;
-        }
-        n += 1;
-    }
-    n
+    places.iter().take_while(|place| is_item(*place)).count()
 }
 
 // The items held, in order of rank.
@@ -124,7 +124,7 @@ pub fn items<T: Ranked>(places: &[T]) -> &[T]
     ensures reads { (given : List T) → Keeps T.rank T.empty places.now given → Reads T.rank T.empty given places.now result.now }
     ensures computes { (by : T → Rank) (n : ℕ) (xs : List T) → Computes by n xs }
 {
-    &places[0..held(places)]
+    &places[..held(places)]
 }
 
 #[cfg(test)]

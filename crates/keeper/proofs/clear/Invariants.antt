@@ -1,6 +1,5 @@
-use Rattle.std.proofs.Common.{◌≡◌}
-use Rattle.std.specs.List.{AllWithin}
+use Rattle.std.proofs.Common.{◌≡◌, take, replicate}
 use Rattle.keeper.proofs.clear.Given as goal
 
 abbrev pub invariant-loop-place : goal.invariant-loop-place
-invariant-loop-place g l = AllWithin (λ y. y ≡ g.T.Ranked.empty) l.places 0 l.place-index
+invariant-loop-place g l = take l.place-index l.place-items ≡ replicate l.place-index g.T.Ranked.empty
