@@ -6,7 +6,7 @@ ghost use Rattle.report.specs.Lines.{of_reading};
 ghost use Rattle.report.specs.Readers.{unread, told_next, next, Begun, Behind, place_behind};
 
 use super::Reader;
-use crate::columns::{Report, report_of};
+use crate::columns::{Report, Row};
 use crate::faults::LineFault;
 use crate::width::Width;
 use rfc4180::{Field, Line, Location, TextFault};
@@ -48,17 +48,21 @@ impl<'a> Reader<'a> {
             column: 1,
             byte: self.place,
         };
-        let wanted = self.width.count() + 2;
+        let width = self.width.count();
+        let wanted = width + 2;
         let mut fields = [Field::Plain(b""); 8];
         let line = self.lex(&mut fields)?;
         if line.fields != wanted {
             return Err(LineFault::FieldCount(Location {
-                line: start.line,
                 column: line.fields.min(wanted) + 1,
-                byte: start.byte,
+                ..start
             }));
         }
-        report_of(&fields[0..wanted], wanted - 2, start)
+        let row = Row {
+            fields: &fields[..wanted],
+            start,
+        };
+        row.report(width)
     }
 
     // What became of the next line, or nothing at the end of the text.
