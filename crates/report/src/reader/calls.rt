@@ -3,6 +3,7 @@ ghost use Rattle.std.specs.Prelude.{◌≡◌, ◌+◌, ◌<◌, length};
 ghost use Rattle.rfc4180.specs.Reading.{read_line};
 ghost use Rattle.rfc4180.specs.Told.{fields_of, line_answer, Filled};
 ghost use Rattle.report.specs.Lines.{of_reading};
+ghost use Rattle.report.specs.Numbers.{ReadsBack};
 ghost use Rattle.report.specs.Readers.{unread, told_next, next, Begun, Behind, place_behind};
 
 use super::Reader;
@@ -69,6 +70,7 @@ impl<'a> Reader<'a> {
     pub fn next_line(&mut self) -> Option<Result<Report, LineFault>>
         ensures answer { told_next result ≡ next self.old.width.count self.old.lines self.old.place (unread self.old) }
         ensures behind { Behind self.old self.new }
+        ensures numbers { ReadsBack }
     {
         if self.place >= self.text.len() {
             return None;
