@@ -3,7 +3,7 @@ ghost use Rattle.std.specs.Prelude.{Some};
 ghost use Rattle.filter.specs.Entries.{entry_text};
 
 use report::{LineFault, Report};
-use rfc4180::Diagnostic;
+use rfc4180::{Diagnostic, Location};
 use std::fmt;
 
 // The line of print for one report line.
@@ -18,11 +18,13 @@ impl fmt::Display for Entry {
     fn fmt<W: fmt::Write>(&self, f: &mut fmt::Formatter<W>) -> fmt::Result {
         match self.outcome {
             Ok(report) => {
-                let line = report.line;
-                let owner = report.owner;
-                let width = report.values[0];
-                let model = report.values[1];
-                let reading = report.reading;
+                let Report {
+                    line,
+                    owner,
+                    values: [width, model, ..],
+                    reading,
+                    ..
+                } = report;
                 write!(
                     f,
                     "line {line}: owner {owner}, width {width}, model {model}, reading {reading}"
@@ -30,9 +32,7 @@ impl fmt::Display for Entry {
             }
             Err(fault) => {
                 let Diagnostic { number, layer, at } = fault.diagnostic();
-                let line = at.line;
-                let column = at.column;
-                let byte = at.byte;
+                let Location { line, column, byte } = at;
                 write!(
                     f,
                     "line {line}: turned away, {number} ({layer}) at column {column}, byte {byte}"

@@ -7,7 +7,7 @@ ghost use Rattle.filter.specs.declared.Refusal.TheVariants.{Memory};
 
 use report::{LineFault, Report, Width, read_all};
 use std::alloc::{AllocError, Global};
-use std::fmt;
+use thiserror::Error;
 
 mod entries;
 
@@ -17,9 +17,11 @@ pub use entries::Entry;
 pub const LIMIT: usize = 65_536;
 
 // Why an input is not read at all.
-#[derive(Clone, Copy, Debug, PartialEq, Eq)]
+#[derive(Clone, Copy, Debug, PartialEq, Eq, Error)]
 pub enum Refusal {
+    #[error("the input is longer than 65,536 bytes")]
     TooLong,
+    #[error("there is not enough memory")]
     Memory,
 }
 
@@ -35,15 +37,7 @@ impl Refusal {
     }
 }
 
-impl fmt::Display for Refusal {
-    fn fmt<W: fmt::Write>(&self, f: &mut fmt::Formatter<W>) -> fmt::Result {
-        match self {
-            Refusal::TooLong => write!(f, "the input is longer than 65,536 bytes"),
-            Refusal::Memory => write!(f, "there is not enough memory"),
-        }
-    }
-}
-
+// By hand, since `?` is to tell its callers which refusal this makes.
 impl From<AllocError> for Refusal {
     ghost from_gives = { λ _ r. r ≡ Memory };
 
@@ -62,13 +56,7 @@ pub struct Findings {
 fn count_taken(lines: &[Result<Report, LineFault>]) -> usize
     ensures { result ≡ length (filter is_ok lines.now) }
 {
-    let mut taken = 0;
-    for line in lines {
-        if line.is_ok() {
-            taken += 1;
-        }
-    }
-    taken
+    lines.iter().filter(|line| line.is_ok()).count()
 }
 
 // Reads an input as report lines of two attributes, width and model.

@@ -5,3 +5,4 @@ pub mod Parsed
 pub mod ReadOn
 pub mod Starts
 pub mod Wholes
+pub mod Written

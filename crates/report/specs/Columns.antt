@@ -52,8 +52,3 @@ miscounted line byte count wanted = record { line = line; column = min count wan
 abbrev pub of_fields : (width line byte : ℕ) → List FieldText → Result Report LineFault
 of_fields width line byte fs =
     cond (length fs == width + 2) (of_columns line byte fs (columns (suc width) fs)) (Err (FieldCount (miscounted line byte (length fs) (width + 2))))
-
--- a field's number, or its fault
-abbrev pub or_kind_fault : {T : Type 0} → Location → Option T → Result T LineFault
-or_kind_fault at None = Err (FieldKind at)
-or_kind_fault at (Some x) = Ok x

@@ -1,5 +1,7 @@
 -- The numbers of a report line, as they are written. Assumes nothing.
-use Rattle.std.specs.Prelude.{ℕ, ◌+◌, ◌-◌, ◌*◌, Bool, cond, ◌&&◌, List, [], ◌∷◌, length, ℤ, pos, neg_ℤ, Some, None, Option, ◌==◌, nat_le}
+use Rattle.std.specs.Prelude.{◌≡◌, ℕ, ◌+◌, ◌-◌, ◌*◌, ◌^◌, ◌<◌, Bool, cond, ◌&&◌, List, [], ◌∷◌, length, ℤ, pos, neg_ℤ, Some, None, Option, ◌==◌, nat_le, decimal, FitsSigned}
+use Rattle.std.specs.Fmt.{signed_decimal}
+use Rattle.std.specs.Int.{w32}
 
 abbrev pub digit : ℕ → Bool
 digit c = nat_le 48 c && nat_le c 57
@@ -33,3 +35,8 @@ as_negative (Some n) = Some (neg_ℤ (pos n))
 abbrev pub reading_of : List ℕ → Option ℤ
 reading_of [] = None
 reading_of (b ∷ bs) = cond (b == 45) (as_negative (at_most 2147483648 (digits_of bs))) (as_positive (at_most 2147483647 (digits_of (b ∷ bs))))
+
+-- what std writes of a number is read as that number
+pub record ReadsBack : Type 0 where
+  pub number : (n : ℕ) → n < 2 ^ 32 → number_of (decimal n) ≡ Some n
+  pub reading : (z : ℤ) → FitsSigned w32 z → reading_of (signed_decimal z) ≡ Some z

@@ -4,14 +4,17 @@ ghost use Rattle.report.specs.Faults.{line_diagnostic};
 ghost use Rattle.report.specs.declared.faults.LineFault.TheVariants.{Text};
 
 use rfc4180::{Diagnostic, Layer, Location, TextFault};
-use std::fmt;
+use thiserror::Error;
 
 // A line is no text of fields, has another number of fields than it should, or has a field that is no number of its
 // kind.
-#[derive(Clone, Copy, Debug, PartialEq, Eq)]
+#[derive(Clone, Copy, Debug, PartialEq, Eq, Error)]
 pub enum LineFault {
+    #[error(transparent)]
     Text(TextFault),
+    #[error("another number of fields than a report line has")]
     FieldCount(Location),
+    #[error("a field that is not the number that belongs there, or out of its range")]
     FieldKind(Location),
 }
 
@@ -35,26 +38,11 @@ impl LineFault {
     }
 }
 
+// By hand, since `?` is to tell its callers which fault this makes.
 impl From<TextFault> for LineFault {
     ghost from_gives = { λ e r. r ≡ Text e };
 
     fn from(fault: TextFault) -> LineFault {
         LineFault::Text(fault)
-    }
-}
-
-impl fmt::Display for LineFault {
-    fn fmt<W: fmt::Write>(&self, f: &mut fmt::Formatter<W>) -> fmt::Result {
-        match self {
-            LineFault::Text(fault) => write!(f, "{fault}"),
-            LineFault::FieldCount(_) => write!(
-                f,
-                "another number of fields than a report line has"
-            ),
-            LineFault::FieldKind(_) => write!(
-                f,
-                "a field that is not the number that belongs there, or out of its range"
-            ),
-        }
     }
 }

@@ -22,15 +22,15 @@ impl Checksum {
     pub fn word(&mut self, w: u32)
         ensures { self.new.h ≡ mixed self.old.h w }
     {
-        self.h = (self.h ^ w as u64).wrapping_mul(0x100_0000_01b3);
+        self.h = (self.h ^ u64::from(w)).wrapping_mul(0x100_0000_01b3);
     }
 
     fn ranges(&mut self, ranges: &[Range])
         ensures { self.new.h ≡ fold mixed self.old.h (ends ranges.now) }
     {
-        for a in ranges {
-            self.word(a.low);
-            self.word(a.high);
+        for range in ranges {
+            self.word(range.low);
+            self.word(range.high);
         }
     }
 
@@ -49,5 +49,13 @@ impl Checksum {
         ensures { result ≡ self.now.h }
     {
         self.h
+    }
+}
+
+impl Default for Checksum {
+    ghost is_default = { λ c. c.h ≡ basis };
+
+    fn default() -> Checksum {
+        Checksum::new()
     }
 }

@@ -56,7 +56,7 @@ impl Source {
         ensures source { self.new.x ≡ ahead 1 self.old.x }
     {
         self.turn();
-        ((self.x >> 32) * n as u64 >> 32) as u32
+        ((self.x >> 32) * u64::from(n) >> 32) as u32
     }
 
     fn owner(&mut self) -> u32
@@ -79,6 +79,7 @@ impl Source {
         ensures source { self.new.x ≡ ahead (min (length sizes.now) 6) self.old.x }
     {
         let mut values = [0; 6];
+        // By index, since a proof knows nothing of what is written through a zip.
         for i in 0..sizes.len().min(6) {
             values[i] = self.below(sizes[i]);
         }
@@ -107,8 +108,7 @@ impl Source {
         if self.below(8) < 7 {
             [20 * self.below(5), 2, 0, 0, 0, 0]
         } else {
-            let width = self.below(101);
-            [width, self.below(8), 0, 0, 0, 0]
+            [self.below(101), self.below(8), 0, 0, 0, 0]
         }
     }
 
@@ -138,5 +138,13 @@ impl Source {
             Workload::Wide => self.record(&[1001; 6]),
             Workload::Phased => self.phased(p),
         }
+    }
+}
+
+impl Default for Source {
+    ghost is_default = { λ s. s.x ≡ seed };
+
+    fn default() -> Source {
+        Source::new()
     }
 }

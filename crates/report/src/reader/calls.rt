@@ -3,10 +3,11 @@ ghost use Rattle.std.specs.Prelude.{◌≡◌, ◌+◌, ◌<◌, length};
 ghost use Rattle.rfc4180.specs.Reading.{read_line};
 ghost use Rattle.rfc4180.specs.Told.{fields_of, line_answer, Filled};
 ghost use Rattle.report.specs.Lines.{of_reading};
+ghost use Rattle.report.specs.Numbers.{ReadsBack};
 ghost use Rattle.report.specs.Readers.{unread, told_next, next, Begun, Behind, place_behind};
 
 use super::Reader;
-use crate::columns::{Report, report_of};
+use crate::columns::{Report, Row};
 use crate::faults::LineFault;
 use crate::width::Width;
 use rfc4180::{Field, Line, Location, TextFault};
@@ -48,23 +49,28 @@ impl<'a> Reader<'a> {
             column: 1,
             byte: self.place,
         };
-        let wanted = self.width.count() + 2;
+        let width = self.width.count();
+        let wanted = width + 2;
         let mut fields = [Field::Plain(b""); 8];
         let line = self.lex(&mut fields)?;
         if line.fields != wanted {
             return Err(LineFault::FieldCount(Location {
-                line: start.line,
                 column: line.fields.min(wanted) + 1,
-                byte: start.byte,
+                ..start
             }));
         }
-        report_of(&fields[0..wanted], wanted - 2, start)
+        let row = Row {
+            fields: &fields[..wanted],
+            start,
+        };
+        row.report(width)
     }
 
     // What became of the next line, or nothing at the end of the text.
     pub fn next_line(&mut self) -> Option<Result<Report, LineFault>>
         ensures answer { told_next result ≡ next self.old.width.count self.old.lines self.old.place (unread self.old) }
         ensures behind { Behind self.old self.new }
+        ensures numbers { ReadsBack }
     {
         if self.place >= self.text.len() {
             return None;

@@ -1,4 +1,4 @@
-use Rattle.std.proofs.Common.{◌≡◌, suc, ◌+◌, ◌-◌, ◌<◌, length, drop, Err, sym, ap, ◌∙◌, arith, length-drop, length-take-le}
+use Rattle.std.proofs.Common.{◌≡◌, suc, ◌+◌, ◌<◌, length, drop, Err, sym, ap, ◌∙◌, arith, length-drop, length-take-le}
 use Rattle.rfc4180.specs.Grammar.{with_commas}
 use Rattle.rfc4180.specs.Reading.{read_line}
 use Rattle.rfc4180.specs.Told.{fields_of}
@@ -12,7 +12,7 @@ returns-then-line-wanted c =
     let self = c.args.self.now in
     let told = c.in_ok-line.ensures in
     let w = was_cut _ _ _ (read_line (drop self.place self.text.now)) c.in_ok-line.line told.answer in
-    let wanted : c.count-wanted.result ≡ self.width.count = c.count-wanted.ensures in
+    let wanted : c.count-width.result ≡ self.width.count = c.count-width.ensures in
     record {
       answer =
           ap (λ k. Err (FieldCount (record { line = self.lines + 1; column = k + 1; byte = self.place }))) (c.min.ensures ∙ ap (λ n. Prim.Native.Nat.min c.in_ok-line.line.fields (n + 2)) wanted)
@@ -20,26 +20,27 @@ returns-then-line-wanted c =
       behind = told.behind;
     }
 
-pub report_of-requires : goal.report_of-requires
-report_of-requires c =
+pub invariant_of-row : goal.invariant_of-row
+invariant_of-row c =
     let self = c.args.self.now in
     let told = c.in_ok-line.ensures in
     let xs = drop self.place self.text.now in
     let w = was_cut _ _ _ (read_line xs) c.in_ok-line.line told.answer in
-    let wanted : c.count-wanted.result ≡ self.width.count = c.count-wanted.ensures in
+    let wanted : c.count-width.result ≡ self.width.count = c.count-width.ensures in
     let few = self.width.few in
     let eight : length c.lex.new.fields ≡ 8 = omega arith in
+    let size = ap (λ l. length (with_commas l)) (all_shown w _ c.lex.new.fields (c.count-width.result + 2) told.fields (omega arith) (omega arith)) in
+    let fit = room xs _ w in
+    let long = length-drop self.place self.text.now in
     let start : self.place < length self.text.now = c.requires in
-    let shown = all_shown w _ c.lex.new.fields (c.count-wanted.result + 2 - 0) told.fields (omega arith) (omega arith) in
-    record {
-      count = length-take-le (c.count-wanted.result + 2 - 0) c.lex.new.fields (omega arith) ∙ omega arith;
-      narrow = omega arith;
-      fits =
-          let size = ap (λ l. length (with_commas l)) shown in
-          let fit = room xs _ w in
-          let long = length-drop self.place self.text.now in
-          omega arith;
-    }
+    record { fits = omega arith }
+
+pub report-requires : goal.report-requires
+report-requires c =
+    let wanted : c.count-width.result ≡ c.args.self.now.width.count = c.count-width.ensures in
+    let few = c.args.self.now.width.few in
+    let eight : length c.lex.new.fields ≡ 8 = omega arith in
+    record { count = length-take-le (c.count-width.result + 2) c.lex.new.fields (omega arith); narrow = omega arith }
 
 pub returns : goal.returns
 returns c =
@@ -47,16 +48,15 @@ returns c =
     let told = c.in_ok-line.ensures in
     let xs = drop self.place self.text.now in
     let w = was_cut _ _ _ (read_line xs) c.in_ok-line.line told.answer in
-    let wanted : c.count-wanted.result ≡ self.width.count = c.count-wanted.ensures in
+    let wanted : c.count-width.result ≡ self.width.count = c.count-width.ensures in
     let few = self.width.few in
     let eight : length c.lex.new.fields ≡ 8 = omega arith in
-    let shown = all_shown w _ c.lex.new.fields (c.count-wanted.result + 2 - 0) told.fields (omega arith) (omega arith) in
-    let same : c.count-wanted.result + 2 - 2 ≡ self.width.count = omega arith in
+    let shown = all_shown w _ c.lex.new.fields (c.count-width.result + 2) told.fields (omega arith) (omega arith) in
     record {
       answer =
-          c.report_of.ensures
-          ∙ ap (λ l. of_columns (self.lines + 1) self.place l (columns (suc (c.count-wanted.result + 2 - 2)) l)) shown
-          ∙ ap (λ n. of_columns (self.lines + 1) self.place (fields_of (read_line xs)) (columns (suc n) (fields_of (read_line xs)))) same
+          c.report.ensures
+          ∙ ap (λ l. of_columns (self.lines + 1) self.place l (columns (suc c.count-width.result) l)) shown
+          ∙ ap (λ n. of_columns (self.lines + 1) self.place (fields_of (read_line xs)) (columns (suc n) (fields_of (read_line xs)))) wanted
           ∙ right_count w self.width.count (self.lines + 1) self.place (omega arith);
       behind = told.behind;
     }
