@@ -7,7 +7,6 @@ ghost use Rattle.sheet.specs.Limits.{max_width};
 ghost use Rattle.sheet.specs.Rows.{bytes_of};
 ghost use Rattle.sheet.specs.Sheets.{Headed};
 
-use crate::digits::put_byte;
 use crate::faults::HeaderFault;
 use rfc4180::{Location, TextFault};
 
@@ -15,10 +14,7 @@ use rfc4180::{Location, TextFault};
 fn content(text: &[u8]) -> &[u8]
     ensures { result.now ≡ without_line_end text.now }
 {
-    match text {
-        [front @ .., b'\r', b'\n'] => front,
-        _ => text,
-    }
+    text.strip_suffix(b"\r\n").unwrap_or(text)
 }
 
 // The size of the header's line, or why it is turned away.
@@ -63,9 +59,8 @@ fn put_header(area: &mut [u8], header: &[u8])
 {
     let line = content(header);
     let end = line.len();
-    area[0..end].copy_from_slice(line);
-    let feed = put_byte(area, end, b'\r');
-    put_byte(area, feed, b'\n');
+    area[..end].copy_from_slice(line);
+    area[end..end + 2].copy_from_slice(b"\r\n");
 }
 
 // Writes the line of the header to the area's start, for a sheet of this width.

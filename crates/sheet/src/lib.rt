@@ -1,7 +1,6 @@
 // Sheets of a release, written as text after RFC 4180.
 #![tactic(auto)]
 
-mod digits;
 mod faults;
 mod fields;
 mod headers;
