@@ -3,11 +3,11 @@ ghost use Rattle.std.specs.Prelude.{◌≡◌, ◌+◌, ◌<◌, ◌≤◌, [], 
 ghost use Rattle.rfc4180.specs.Reading.{read_line};
 ghost use Rattle.sheet.specs.Calls.{header_answer, second_line, area_after};
 ghost use Rattle.sheet.specs.Headers.{without_line_end};
-ghost use Rattle.sheet.specs.Limits.{max_width};
 ghost use Rattle.sheet.specs.Rows.{bytes_of};
 ghost use Rattle.sheet.specs.Sheets.{Headed};
 
 use crate::faults::HeaderFault;
+use domain::Width;
 use rfc4180::{Location, TextFault};
 
 // The text without the CR LF at its end, if it has one.
@@ -18,18 +18,18 @@ fn content(text: &[u8]) -> &[u8]
 }
 
 // The size of the header's line, or why it is turned away.
-fn header_size(width: usize, header: &[u8], room: usize) -> Result<usize, HeaderFault>
-    requires { width ≤ max_width }
-    ensures { result ≡ header_answer width room (length header.now) (read_line header.now) }
+fn header_size(width: Width, header: &[u8], room: usize) -> Result<usize, HeaderFault>
+    ensures { result ≡ header_answer width.count room (length header.now) (read_line header.now) }
 {
     let line = rfc4180::read_line(header, 0, 1, &mut [])?;
     if line.next < header.len() {
         return Err(HeaderFault::Text(second_line(line.next)));
     }
-    if line.fields != width + 1 {
+    let wanted = width.count() + 1;
+    if line.fields != wanted {
         return Err(HeaderFault::Fields {
             found: line.fields,
-            wanted: width + 1,
+            wanted,
         });
     }
     let needed = content(header).len() + 2;
@@ -65,14 +65,13 @@ fn put_header(area: &mut [u8], header: &[u8])
 
 // Writes the line of the header to the area's start, for a sheet of this width.
 pub(crate) fn write_header(
-    width: usize,
+    width: Width,
     header: &[u8],
     area: &mut [u8],
 ) -> Result<usize, HeaderFault>
-    requires { width ≤ max_width }
-    ensures answer { result ≡ header_answer width (length area.old) (length header.now) (read_line header.now) }
+    ensures answer { result ≡ header_answer width.count (length area.old) (length header.now) (read_line header.now) }
     ensures area { area.new ≡ area_after (bytes_of (read_line header.now)) area.old result }
-    ensures back { IfOk result (λ n. Headed width header.now n area.old area.new) }
+    ensures back { IfOk result (λ n. Headed width.count header.now n area.old area.new) }
 {
     let size = header_size(width, header, area.len())?;
     put_header(area, header);

@@ -7,7 +7,7 @@ mod headers;
 mod rows;
 mod sheets;
 
-pub use faults::{BeginFault, HeaderFault, RowFault};
+pub use faults::{HeaderFault, RowFault};
 pub use rows::{MAX_ROW, MAX_ROWS};
 pub use sheets::{BareSheet, EndedSheet, HeadedSheet, HeaderRefused};
 

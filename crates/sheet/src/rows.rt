@@ -1,7 +1,7 @@
 // A row as text, and its copy in a text area.
 ghost use Rattle.std.specs.Prelude.{◌≡◌, ◌+◌, ◌≤◌, ◌++◌, length, take, drop, IfOk, OnOk};
 ghost use Rattle.sheet.specs.Calls.{row_answer, area_after};
-ghost use Rattle.sheet.specs.Limits.{max_width, max_rows, max_row};
+ghost use Rattle.sheet.specs.Limits.{max_rows, max_row};
 ghost use Rattle.sheet.specs.Rows.{row_bytes};
 ghost use Rattle.sheet.specs.Sheets.{RowBack, GoesOn};
 ghost use Rattle.sheet.specs.Shown.{Shown};
@@ -9,6 +9,7 @@ ghost use Rattle.sheet.specs.Shown.{Shown};
 use crate::faults::RowFault;
 use crate::fields::push_attribute;
 use arrayvec::ArrayString;
+use domain::Width;
 use itoa::Buffer;
 use release::Line;
 
@@ -22,13 +23,12 @@ pub const MAX_ROW: usize = 169;
 pub(crate) type RowText = ArrayString<MAX_ROW>;
 
 // The row of a line.
-fn row_text(width: usize, line: &Line) -> RowText
-    requires { width ≤ max_width }
-    ensures bytes { result.bytes ≡ row_bytes width line.now }
-    ensures shown { Shown width line.now }
+fn row_text(width: Width, line: &Line) -> RowText
+    ensures bytes { result.bytes ≡ row_bytes width.count line.now }
+    ensures shown { Shown width.count line.now }
 {
     let mut row = RowText::new();
-    for range in &line.ranges[..width] {
+    for range in &line.ranges[..width.count()] {
         push_attribute(&mut row, line.manner, *range);
         row.push(',');
     }
@@ -39,17 +39,16 @@ fn row_text(width: usize, line: &Line) -> RowText
 
 // Writes the row of a line to the area's start, for a sheet that has so many rows.
 pub(crate) fn write_row(
-    width: usize,
+    width: Width,
     rows: u32,
     line: &Line,
     area: &mut [u8],
 ) -> Result<usize, RowFault>
-    requires { width ≤ max_width }
-    ensures answer { result ≡ row_answer rows (length area.old) (length (row_bytes width line.now)) }
-    ensures most { length (row_bytes width line.now) ≤ max_row }
-    ensures area { area.new ≡ area_after (row_bytes width line.now) area.old result }
-    ensures back { IfOk result (λ n. RowBack width line.now n area.old area.new) }
-    ensures goes_on { IfOk result (λ n. GoesOn width rows width (rows + 1) line.now (take n area.new)) }
+    ensures answer { result ≡ row_answer rows (length area.old) (length (row_bytes width.count line.now)) }
+    ensures most { length (row_bytes width.count line.now) ≤ max_row }
+    ensures area { area.new ≡ area_after (row_bytes width.count line.now) area.old result }
+    ensures back { IfOk result (λ n. RowBack width.count line.now n area.old area.new) }
+    ensures goes_on { IfOk result (λ n. GoesOn width.count rows width.count (rows + 1) line.now (take n area.new)) }
     ensures room { OnOk result (rows + 1 ≤ max_rows) }
 {
     let row = row_text(width, line);

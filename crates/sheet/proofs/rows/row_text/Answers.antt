@@ -10,7 +10,7 @@ use Rattle.sheet.proofs.rows.row_text.Goals as goal
 
 pub loop-range-preserved : goal.loop-range-preserved
 loop-range-preserved c =
-    let ranges = take c.args.width c.args.line.now.ranges in
+    let ranges = take c.count.result c.args.line.now.ranges in
     let i = c.loop-range.range-index in
     let more = attributes_more (attribute_field c.args.line.now.manner) ranges i (record { low = 0; high = 0 }) (omega arith) in
     let comma = c.push.ensures.ascii (omega arith) in
@@ -21,4 +21,5 @@ pub returns-clause-shown : goal.returns-clause-shown
 returns-clause-shown c =
     let line = c.args.line.now in
     let fit : SFits w32 line.reading = search rules in
-    row_shown c.args.width line (subst (AllByRecursion Small) (take_all c.loop-range.range-index (take c.args.width line.ranges) (omega arith)) c.loop-range.invariant.2) (mag_small line.reading fit)
+    let all = take_all c.loop-range.range-index (take c.count.result line.ranges) (omega arith) ∙ ap (λ n. take n line.ranges) c.count.ensures in
+    row_shown c.args.width.count line (subst (AllByRecursion Small) all c.loop-range.invariant.2) (mag_small line.reading fit)

@@ -8,6 +8,6 @@ use Rattle.sheet.proofs.rows.row_text.Given as goal
 
 abbrev pub invariant-loop-range : goal.invariant-loop-range
 invariant-loop-range l =
-    (l.row.bytes ≡ with_commas (map (attribute_field l.line.manner) (take l.range-index (take l.width l.line.ranges))))
+    (l.row.bytes ≡ with_commas (map (attribute_field l.line.manner) (take l.range-index l.range-items)))
     × (array_string_len l.row ≤ 26 * l.range-index)
-    × AllByRecursion Small (take l.range-index (take l.width l.line.ranges))
+    × AllByRecursion Small (take l.range-index l.range-items)

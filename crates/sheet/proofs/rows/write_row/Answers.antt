@@ -8,6 +8,6 @@ returns-clause-back c =
     let line = c.args.line.now in
     let area = c.args.area.now in
     let n = c.len-needed.result in
-    let same : n ≡ length (row_bytes c.args.width line) = search rules in
-    let copied : c.copy_from_slice.new.self ≡ row_bytes c.args.width line = search rules in
-    row_back c.args.width line n area _ c.row_text-row.ensures.shown (ap (λ l. l ++ drop n area) copied) same
+    let same : n ≡ length (row_bytes c.args.width.count line) = search rules in
+    let copied : c.copy_from_slice.new.self ≡ row_bytes c.args.width.count line = search rules in
+    row_back c.args.width.count line n area _ c.row_text-row.ensures.shown (ap (λ l. l ++ drop n area) copied) same
