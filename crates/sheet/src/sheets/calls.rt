@@ -37,16 +37,12 @@ impl BareSheet {
         ensures sheet { MatchResult result (λ t. (t.0.width ≡ self.width) × (t.0.rows ≡ 0)) (λ e. e.sheet ≡ self) }
         ensures back { IfOk result (λ t. Headed self.width.count header.now t.1 area.old area.new) }
     {
-        match write_header(self.width, header, area) {
-            Ok(size) => Ok((
-                HeadedSheet {
-                    width: self.width,
-                    rows: 0,
-                },
-                size,
-            )),
-            Err(fault) => Err(HeaderRefused { sheet: self, fault }),
-        }
+        let width = self.width;
+        let size = write_header(width, header, area).map_err(|fault| HeaderRefused {
+            sheet: self,
+            fault,
+        })?;
+        Ok((HeadedSheet { width, rows: 0 }, size))
     }
 }
 
