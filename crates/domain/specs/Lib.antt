@@ -1,4 +1,5 @@
 pub mod Ranges
+pub mod Widths
 pub mod Meaning
 pub mod Joins
 pub mod IntervalFacts

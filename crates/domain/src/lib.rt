@@ -9,11 +9,13 @@ mod boxes;
 mod interval;
 mod pair;
 mod range;
+mod width;
 
 pub use boxes::{box_loss, covers, join_boxes, point_box, widen};
 pub use interval::{Interval, IntervalFault};
 pub use pair::Pair;
 pub use range::Range;
+pub use width::{Width, WidthFault};
 
 // The loss of a range that tells nothing.
 pub const FULL_LOSS: u32 = 10_000;

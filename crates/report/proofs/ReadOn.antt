@@ -4,7 +4,7 @@ use Rattle.std.proofs.lemmas.List.{map_push}
 use Rattle.report.specs.declared.columns.Report.{Report}
 use Rattle.report.specs.declared.faults.LineFault.{LineFault}
 use Rattle.report.specs.declared.reader.Reader.{Reader}
-use Rattle.report.specs.declared.width.Width.{Width}
+use Rattle.domain.specs.declared.width.Width.{Width}
 use Rattle.report.specs.Lines.{Outcome, told, outcome, left, size, outcomes_behind, outcomes}
 use Rattle.report.specs.Readers.{unread, next, lines_more, Begun, Behind}
 use Rattle.report.proofs.Advance.{advances}

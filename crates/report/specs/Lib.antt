@@ -3,5 +3,4 @@ pub mod Faults
 pub mod Columns
 pub mod Lines
 pub mod Readers
-pub mod Widths
 pub mod Whole

@@ -7,7 +7,7 @@ use Rattle.rfc4180.specs.Reading.{behind_line_end}
 use Rattle.report.specs.declared.columns.Report.{Report}
 use Rattle.report.specs.declared.faults.LineFault.{LineFault}
 use Rattle.report.specs.declared.reader.Reader.{Reader}
-use Rattle.report.specs.declared.width.Width.{Width}
+use Rattle.domain.specs.declared.width.Width.{Width}
 use Rattle.report.specs.Lines.{Outcome, told, outcome, size, left}
 
 -- the text that is still to be read

@@ -6,10 +6,9 @@ mod faults;
 mod numbers;
 mod reader;
 mod texts;
-mod width;
 
 pub use columns::Report;
+pub use domain::{Width, WidthFault};
 pub use faults::LineFault;
 pub use reader::Reader;
 pub use texts::read_all;
-pub use width::{Width, WidthFault};

@@ -1,6 +1,6 @@
 ghost use Rattle.std.specs.Prelude.{◌≤◌, length};
 
-use crate::width::Width;
+use domain::Width;
 
 mod calls;
 

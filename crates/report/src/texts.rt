@@ -6,7 +6,7 @@ ghost use Rattle.report.specs.Whole.{Whole};
 use crate::columns::Report;
 use crate::faults::LineFault;
 use crate::reader::Reader;
-use crate::width::Width;
+use domain::Width;
 use std::alloc::{AllocError, Global};
 
 // What became of each line of `text`, in their order.

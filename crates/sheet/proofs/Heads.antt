@@ -1,5 +1,5 @@
 -- A header's text and the line that it is. Assumes nothing.
-use Rattle.std.proofs.Common.{◌≡◌, ℕ, ◌+◌, ◌-◌, ◌<◌, ◌≤◌, true, false, cond, eqb, ltb, leb, List, [], ◌∷◌, ◌++◌, length, get_or, take, drop, Ok, Err, Result, sym, refl, ap, ◌∙◌, subst, ⊎_elim, append_assoc, append-nil, arith, length-append}
+use Rattle.std.proofs.Common.{◌≡◌, ℕ, ◌+◌, ◌-◌, ◌<◌, ◌≤◌, true, false, eqb, ltb, leb, List, [], ◌∷◌, ◌++◌, length, get_or, take, drop, Ok, Err, Result, sym, refl, ap, ◌∙◌, subst, ⊎_elim, append_assoc, append-nil, arith, length-append}
 use Rattle.rfc4180.specs.Grammar.{plain, FieldText, plainly, quoted, Plain, Lawful, written, with_commas, Derives}
 use Rattle.rfc4180.specs.Reading.{LineRead, cut, damaged, read_line}
 use Rattle.rfc4180.specs.Told.{line_answer}
@@ -10,7 +10,7 @@ use Rattle.std.proofs.lemmas.List.{get_or_at, take_at}
 use Rattle.std.proofs.lemmas.Bool.{cases_lt, cases_eq, cond-true, cond-false, and_from, and_right, le-leb, lt-ltb, le-ltb, eq-eqb, ne_eqb}
 use Rattle.std.proofs.lemmas.Bool.Decides.{nat_tests}
 use Rattle.sheet.specs.declared.faults.HeaderFault.TheVariants.{Text, Fields, AreaTooShort}
-use Rattle.sheet.specs.Calls.{second_line, header_answer}
+use Rattle.sheet.specs.Calls.{second_line, room_answer, header_answer}
 use Rattle.sheet.specs.Headers.{ends_line, without_line_end}
 use Rattle.sheet.specs.Rows.{line_bytes, bytes_of}
 use Rattle.sheet.specs.Sheets.{Headed}
@@ -93,11 +93,10 @@ rest_within text front last rest d =
 
 -- What the line that was read tells of the answer.
 
-pub record Checked (width room : ℕ) (header : List ℕ) (r : LineRead) (line : Line) : Type 0 where
-  pub behind : line.next < length header → Err (Text (second_line line.next)) ≡ header_answer width room (length header) r
-  pub fields : length header ≤ line.next → (line.fields ≡ width + 1 → ⊥) → Err (Fields line.fields (width + 1)) ≡ header_answer width room (length header) r
-  pub short : length header ≤ line.next → line.fields ≡ width + 1 → room < length (without_line_end header) + 2 → Err (AreaTooShort (length (without_line_end header) + 2)) ≡ header_answer width room (length header) r
-  pub taken : length header ≤ line.next → line.fields ≡ width + 1 → length (without_line_end header) + 2 ≤ room → Ok (length (without_line_end header) + 2) ≡ header_answer width room (length header) r
+pub record Checked (width : ℕ) (header : List ℕ) (r : LineRead) (line : Line) : Type 0 where
+  pub behind : line.next < length header → (room : ℕ) → header_answer width room (length header) r ≡ Err (Text (second_line line.next))
+  pub fields : length header ≤ line.next → (line.fields ≡ width + 1 → ⊥) → (room : ℕ) → header_answer width room (length header) r ≡ Err (Fields line.fields (width + 1))
+  pub taken : length header ≤ line.next → line.fields ≡ width + 1 → (room : ℕ) → header_answer width room (length header) r ≡ room_answer room (length (without_line_end header) + 2)
 
 same_line : (l m : Line) → ◌≡◌ {A = Result Line TextFault} (Ok l) (Ok m) → l ≡ m
 same_line l m e = cc
@@ -114,46 +113,43 @@ at_second_line width room size front last rest h = cond-true (ltb 0 (length rest
 at_fields : (width room size : ℕ) (front : List FieldText) (last : FieldText) → (length front ≡ width → ⊥) → header_answer width room size (cut front last []) ≡ Err (Fields (length front + 1) (width + 1))
 at_fields width room size front last n = cond-false (eqb (length front) width) _ _ (ne_eqb (length front) width n)
 
-at_room : (width room size : ℕ) (front : List FieldText) (last : FieldText) → length front ≡ width → header_answer width room size (cut front last []) ≡ cond (ltb room (length (line_bytes front last))) (Err (AreaTooShort (length (line_bytes front last)))) (Ok (length (line_bytes front last)))
+at_room : (width room size : ℕ) (front : List FieldText) (last : FieldText) → length front ≡ width → header_answer width room size (cut front last []) ≡ room_answer room (length (line_bytes front last))
 at_room width room size front last e = cond-true (eqb (length front) width) _ _ (eq-eqb (length front) width e)
 
-checked_at_end : (width room : ℕ) (header : List ℕ) (front : List FieldText) (last : FieldText) (line : Line) → Derives header front last [] → line.fields ≡ length front + 1 → line.next ≡ length header → Checked width room header (cut front last []) line
-checked_at_end width room header front last line d f n =
-    let size = size_is header front last d in
+checked_at_end : (width : ℕ) (header : List ℕ) (front : List FieldText) (last : FieldText) (line : Line) → Derives header front last [] → line.fields ≡ length front + 1 → line.next ≡ length header → Checked width header (cut front last []) line
+checked_at_end width header front last line d f n =
     record {
       behind = λ h. absurd (omega arith);
-      fields = λ _ k. ap (λ m. Err (Fields m (width + 1))) f ∙ sym (at_fields width room (length header) front last (λ e. k (omega arith)));
-      short = λ _ k s. ap (λ m. Err (AreaTooShort m)) size ∙ sym (at_room width room (length header) front last (omega arith) ∙ cond-true (ltb room (length (line_bytes front last))) _ _ (lt-ltb _ _ (omega arith)));
-      taken = λ _ k s. ap Ok size ∙ sym (at_room width room (length header) front last (omega arith) ∙ cond-false (ltb room (length (line_bytes front last))) _ _ (le-ltb _ _ (omega arith)));
+      fields = λ _ k room. at_fields width room (length header) front last (λ e. k (omega arith)) ∙ ap (λ m. Err (Fields m (width + 1))) (sym f);
+      taken = λ _ k room. at_room width room (length header) front last (omega arith) ∙ ap (room_answer room) (sym (size_is header front last d));
     }
 
-checked_behind : (width room : ℕ) (header : List ℕ) (front : List FieldText) (last : FieldText) (rest : List ℕ) (line : Line) → 0 < length rest → length rest ≤ length header → line.next ≡ length header - length rest → Checked width room header (cut front last rest) line
-checked_behind width room header front last rest line h k n =
+checked_behind : (width : ℕ) (header : List ℕ) (front : List FieldText) (last : FieldText) (rest : List ℕ) (line : Line) → 0 < length rest → length rest ≤ length header → line.next ≡ length header - length rest → Checked width header (cut front last rest) line
+checked_behind width header front last rest line h k n =
     record {
-      behind = λ _. ap (λ m. Err (Text (second_line m))) n ∙ sym (at_second_line width room (length header) front last rest h);
-      fields = λ e _. absurd (omega arith);
-      short = λ e _ _. absurd (omega arith);
+      behind = λ _ room. at_second_line width room (length header) front last rest h ∙ ap (λ m. Err (Text (second_line m))) (sym n);
+      fields = λ e _ _. absurd (omega arith);
       taken = λ e _ _. absurd (omega arith);
     }
 
-checked_cut : (width room : ℕ) (header : List ℕ) (front : List FieldText) (last : FieldText) (rest : List ℕ) (line : Line) → Derives header front last rest → line.fields ≡ length front + 1 → line.next ≡ length header - length rest → Checked width room header (cut front last rest) line
-checked_cut width room header front last rest line d f n =
+checked_cut : (width : ℕ) (header : List ℕ) (front : List FieldText) (last : FieldText) (rest : List ℕ) (line : Line) → Derives header front last rest → line.fields ≡ length front + 1 → line.next ≡ length header - length rest → Checked width header (cut front last rest) line
+checked_cut width header front last rest line d f n =
     ⊎_elim
-    (λ h. checked_behind width room header front last rest line h (rest_within header front last rest d) n)
+    (λ h. checked_behind width header front last rest line h (rest_within header front last rest d) n)
     (λ h.
     let none = none_left rest h in
-    subst (λ r. Checked width room header (cut front last r) line) (sym none)
-    (checked_at_end width room header front last line (subst (Derives header front last) none d) f (omega arith)))
+    subst (λ r. Checked width header (cut front last r) line) (sym none)
+    (checked_at_end width header front last line (subst (Derives header front last) none d) f (omega arith)))
     (cases_lt 0 (length rest))
 
-checked_read : (width room : ℕ) (header : List ℕ) (r : LineRead) (line : Line) → LineTells header r → Ok line ≡ line_answer 1 0 (length header) r → Checked width room header r line
-checked_read width room header (cut front last rest) line t e =
+checked_read : (width : ℕ) (header : List ℕ) (r : LineRead) (line : Line) → LineTells header r → Ok line ≡ line_answer 1 0 (length header) r → Checked width header r line
+checked_read width header (cut front last rest) line t e =
     let same = same_line line _ e in
-    checked_cut width room header front last rest line t (ap (λ l. l.fields) same) (ap (λ l. l.next) same)
-checked_read width room header (damaged front w n) line t e = let z : ◌≡◌ {A = ℕ} 0 1 = cc in absurd (omega arith)
+    checked_cut width header front last rest line t (ap (λ l. l.fields) same) (ap (λ l. l.next) same)
+checked_read width header (damaged front w n) line t e = let z : ◌≡◌ {A = ℕ} 0 1 = cc in absurd (omega arith)
 
-pub checked : (width room : ℕ) (header : List ℕ) (line : Line) → Ok line ≡ line_answer 1 0 (length header) (read_line header) → Checked width room header (read_line header) line
-checked width room header line e = checked_read width room header (read_line header) line (line_tells header) e
+pub checked : (width : ℕ) (header : List ℕ) (line : Line) → Ok line ≡ line_answer 1 0 (length header) (read_line header) → Checked width header (read_line header) line
+checked width header line e = checked_read width header (read_line header) line (line_tells header) e
 
 -- What a header that is taken tells.
 
@@ -190,8 +186,8 @@ taken_read width room header (cut front last rest) n t e =
         (λ c. let a = at_fields width room (length header) front last c in let z : ◌≡◌ {A = ℕ} 0 1 = cc in absurd (omega arith))
         (cases_eq (length front) width)
 
-pub taken : (width room : ℕ) (header : List ℕ) (n : ℕ) → Ok n ≡ header_answer width room (length header) (read_line header) → Taken width room header n
-taken width room header n e = taken_read width room header (read_line header) n (line_tells header) e
+pub taken : (width room : ℕ) (header : List ℕ) (n : ℕ) → header_answer width room (length header) (read_line header) ≡ room_answer room n → n ≤ room → Taken width room header n
+taken width room header n e h = taken_read width room header (read_line header) n (line_tells header) (sym (e ∙ cond-false (ltb room n) (Err (AreaTooShort n)) (Ok n) (le-ltb room n h)))
 
 pub header_area : (width : ℕ) (header : List ℕ) (n : ℕ) (before after : List ℕ) → Taken width (length before) header n → after ≡ without_line_end header ++ 13 ∷ 10 ∷ drop (length (without_line_end header) + 2) before → after ≡ bytes_of (read_line header) ++ drop n before
 header_area width header n before after t e =

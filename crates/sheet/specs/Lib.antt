@@ -1,6 +1,5 @@
 pub mod Limits
 pub mod Rows
-pub mod Areas
 pub mod Refusals
 pub mod Headers
 pub mod Calls

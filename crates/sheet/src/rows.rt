@@ -1,14 +1,16 @@
-// A row, put into a text area.
+// A row as text, and its copy in a text area.
 ghost use Rattle.std.specs.Prelude.{◌≡◌, ◌+◌, ◌≤◌, ◌++◌, length, take, drop, IfOk, OnOk};
 ghost use Rattle.sheet.specs.Calls.{row_answer, area_after};
-ghost use Rattle.sheet.specs.Limits.{max_width, max_rows, max_row};
+ghost use Rattle.sheet.specs.Limits.{max_rows, max_row};
 ghost use Rattle.sheet.specs.Rows.{row_bytes};
 ghost use Rattle.sheet.specs.Sheets.{RowBack, GoesOn};
 ghost use Rattle.sheet.specs.Shown.{Shown};
 
-use crate::digits::{put_byte, put_reading, reading_size};
 use crate::faults::RowFault;
-use crate::fields::{attributes_size, put_attributes};
+use crate::fields::attribute_text;
+use arrayvec::ArrayString;
+use domain::Width;
+use itoa::Buffer;
 use release::Line;
 
 // The most rows that a sheet may have.
@@ -17,49 +19,43 @@ pub const MAX_ROWS: u32 = 4_000_000_000;
 // The most bytes that a row takes: an area of this size has room for any.
 pub const MAX_ROW: usize = 169;
 
-// The size of the row of a line.
-fn row_size(width: usize, line: &Line) -> usize
-    requires { width ≤ max_width }
-    ensures value { result ≡ length (row_bytes width line.now) }
-    ensures bound { result ≤ max_row }
-    ensures shown { Shown width line.now }
+// The row of a line, made before it is known whether an area has room for it.
+fn row_text(width: Width, line: &Line) -> ArrayString<MAX_ROW>
+    ensures bytes { result.bytes ≡ row_bytes width.count line.now }
+    ensures shown { Shown width.count line.now }
 {
-    attributes_size(line.manner, &line.ranges[0..width]) + reading_size(line.reading) + 2
-}
-
-// Puts the row of a line at the area's start.
-fn put_row(area: &mut [u8], width: usize, line: &Line)
-    requires { (width ≤ max_width) × (length (row_bytes width line.now) ≤ length area.old) }
-    ensures { area.new ≡ row_bytes width line.now ++ drop (length (row_bytes width line.now)) area.old }
-{
-    let reading = put_attributes(area, 0, line.manner, &line.ranges[0..width]);
-    let end = put_reading(area, reading, line.reading);
-    let feed = put_byte(area, end, b'\r');
-    put_byte(area, feed, b'\n');
+    let mut row = ArrayString::new();
+    for range in &line.ranges[..width.count()] {
+        row.push_str(attribute_text(line.manner, *range).as_str());
+        row.push(',');
+    }
+    row.push_str(Buffer::new().format(line.reading));
+    row.push_str("\r\n");
+    row
 }
 
 // Writes the row of a line to the area's start, for a sheet that has so many rows.
 pub(crate) fn write_row(
-    width: usize,
+    width: Width,
     rows: u32,
     line: &Line,
     area: &mut [u8],
 ) -> Result<usize, RowFault>
-    requires { width ≤ max_width }
-    ensures answer { result ≡ row_answer rows (length area.old) (length (row_bytes width line.now)) }
-    ensures most { length (row_bytes width line.now) ≤ max_row }
-    ensures area { area.new ≡ area_after (row_bytes width line.now) area.old result }
-    ensures back { IfOk result (λ n. RowBack width line.now n area.old area.new) }
-    ensures goes_on { IfOk result (λ n. GoesOn width rows width (rows + 1) line.now (take n area.new)) }
+    ensures answer { result ≡ row_answer rows (length area.old) (length (row_bytes width.count line.now)) }
+    ensures most { length (row_bytes width.count line.now) ≤ max_row }
+    ensures area { area.new ≡ area_after (row_bytes width.count line.now) area.old result }
+    ensures back { IfOk result (λ n. RowBack width.count line.now n area.old area.new) }
+    ensures goes_on { IfOk result (λ n. GoesOn width.count rows width.count (rows + 1) line.now (take n area.new)) }
     ensures room { OnOk result (rows + 1 ≤ max_rows) }
 {
-    let needed = row_size(width, line);
+    let row = row_text(width, line);
+    let needed = row.len();
     if rows >= MAX_ROWS {
         return Err(RowFault::Full);
     }
     if area.len() < needed {
         return Err(RowFault::AreaTooShort { needed });
     }
-    put_row(area, width, line);
+    area[..needed].copy_from_slice(row.as_bytes());
     Ok(needed)
 }

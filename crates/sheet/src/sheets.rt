@@ -1,6 +1,5 @@
 // A sheet is bare, then headed, then ended: three types of plain numbers, each moving into the next.
-ghost use Rattle.std.specs.Prelude.{◌≤◌};
-ghost use Rattle.sheet.specs.Limits.{max_width};
+use domain::Width;
 
 mod calls;
 
@@ -9,16 +8,14 @@ pub use calls::HeaderRefused;
 // A sheet that waits for its header.
 #[derive(Debug, Drop)]
 pub struct BareSheet {
-    width: usize,
-    ghost wide: { (1 ≤ width) × (width ≤ max_width) },
+    width: Width,
 }
 
 // A sheet that takes rows.
 #[derive(Debug, Drop)]
 pub struct HeadedSheet {
-    width: usize,
+    width: Width,
     rows: u32,
-    ghost wide: { (1 ≤ width) × (width ≤ max_width) },
 }
 
 // A sheet that takes nothing more.

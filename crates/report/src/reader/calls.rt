@@ -9,7 +9,7 @@ ghost use Rattle.report.specs.Readers.{unread, told_next, next, Begun, Behind, p
 use super::Reader;
 use crate::columns::{Report, Row};
 use crate::faults::LineFault;
-use crate::width::Width;
+use domain::Width;
 use rfc4180::{Field, Line, Location, TextFault};
 
 impl<'a> Reader<'a> {

@@ -1,15 +1,16 @@
 use Rattle.std.proofs.Common.{length, arith}
-use Rattle.sheet.proofs.Heads.{taken, header_area, headed, size_is}
+use Rattle.std.proofs.lemmas.Grind.{common_steps}
+use Rattle.sheet.proofs.Heads.{taken, header_area, headed}
 use Rattle.sheet.proofs.headers.write_header.Goals as goal
 
-pub put_header-requires : goal.put_header-requires
-put_header-requires c =
-    let t = taken c.args.width (length c.args.area.now) c.args.header.now c.in_ok-size.size c.in_ok-size.ensures in
-    omega (arith, size_is c.args.header.now t.front t.last t.derives, t.size, t.room_for)
+pub returns-clause-area : goal.returns-clause-area
+returns-clause-area c =
+    let area = c.args.area.now in
+    let t = taken c.args.width.count (length area) c.args.header.now _ (c.in_ok-line.ensures.taken (length area)) (omega arith) in
+    header_area c.args.width.count c.args.header.now _ area _ t (grind (arith, common_steps))
 
-pub returns : goal.returns
-returns c =
-    let answer = c.in_ok-size.ensures in
-    let t = taken c.args.width (length c.args.area.now) c.args.header.now c.in_ok-size.size answer in
-    let whole = header_area c.args.width c.args.header.now c.in_ok-size.size c.args.area.now _ t c.put_header.ensures in
-    record { answer = answer; area = whole; back = headed c.args.width c.args.header.now c.in_ok-size.size c.args.area.now _ t whole }
+pub returns-clause-back : goal.returns-clause-back
+returns-clause-back c =
+    let area = c.args.area.now in
+    let t = taken c.args.width.count (length area) c.args.header.now _ (c.in_ok-line.ensures.taken (length area)) (omega arith) in
+    headed c.args.width.count c.args.header.now _ area _ t (returns-clause-area c)

@@ -1,7 +1,7 @@
 -- The widths that there are. Assumes nothing.
 use Rattle.std.specs.Prelude.{◌≡◌, ℕ, ◌<◌, ◌⊎◌}
-use Rattle.report.specs.declared.width.calls.WidthFault.{WidthFault}
-use Rattle.report.specs.declared.width.calls.WidthFault.TheVariants.{OutOfRange}
+use Rattle.domain.specs.declared.width.WidthFault.{WidthFault}
+use Rattle.domain.specs.declared.width.WidthFault.TheVariants.{OutOfRange}
 
 abbrev pub OutOfWidth : ℕ → Type 0
 OutOfWidth count = (count ≡ 0) ⊎ (6 < count)
