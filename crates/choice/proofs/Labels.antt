@@ -34,20 +34,6 @@ labels_rows m hs (x ∷ xs) = ap (λ ys. x ∷ ys) (labels_rows m hs xs)
 pub labels_table : (m : Meaning) (hs : List Held) (cs : List Cluster) → cs ≡ table m hs → labels cs ≡ clusters hs
 labels_table m hs cs e = ap labels e ∙ labels_rows m hs (clusters hs)
 
--- what is listed has a place
-listed_place : (xs : List ℕ) (x : ℕ) → In xs x → (i : ℕ) × (i < length xs) × (get_or xs i 0 ≡ x)
-listed_place [] x i = absurd i
-listed_place (y ∷ ys) x i = ⊎_elim {C = (i : ℕ) × (i < length (y ∷ ys)) × (get_or (y ∷ ys) i 0 ≡ x)}
-    (λ e. (0, omega arith, e))
-    (λ j. let r = listed_place ys x j in (suc r.0, omega (arith, r.1), r.2))
-    i
-
--- the cluster of a held record stands in the table
-pub held_place : (m : Meaning) (hs : List Held) (cs : List Cluster) (h : Held) → cs ≡ table m hs → In hs h → (i : ℕ) × (i < length cs) × (label_at cs i ≡ h.label)
-held_place m hs cs h e i =
-    let r = listed_place (labels cs) h.label (subst (λ xs. In xs h.label) (sym (labels_table m hs cs e)) ((clusters_law hs).listed h i)) in
-    (r.0, omega (arith, r.1, length_labels cs), r.2)
-
 pub map_map : {X Y Z : Type 0} (f : Y → Z) (k : X → Y) (xs : List X) → map (λ x. f (k x)) xs ≡ map f (map k xs)
 map_map f k [] = refl
 map_map f k (x ∷ xs) = ap (λ ys. f (k x) ∷ ys) (map_map f k xs)
