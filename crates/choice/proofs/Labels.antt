@@ -1,8 +1,8 @@
 -- The labels of the table, and what its rows tell of the held records.
 use Rattle.std.proofs.Common.{◌≡◌, ℕ, zero, suc, ◌<◌, ◌≤◌, Bool, true, false, cond, eqb, ltb, List, [], ◌∷◌, map, length, get_or, filter, sym, refl, ap, ◌∙◌, subst, inl, inr, ⊎_elim, arith}
-use Rattle.std.specs.List.{range_with_len, AllByRecursion}
+use Rattle.std.specs.List.{range_with_len, enumerate_from, AllByRecursion}
 use Rattle.std.proofs.lemmas.List.{get_or-map, length-map}
-use Rattle.std.proofs.lemmas.List.FromFn.{length-range_with_len, get_or-range_with_len, fill_by_all}
+use Rattle.std.proofs.lemmas.List.FromFn.{length-range_with_len, get_or-range_with_len, fill_by_all, length-enumerate_from, get_or-enumerate_from}
 use Rattle.std.proofs.ByRecursion.{All-from_get_or}
 use Rattle.std.proofs.lemmas.Bool.{eq-eqb}
 use Rattle.domain.specs.Meaning.{Meaning}
@@ -64,6 +64,12 @@ all_counting P n h =
 -- the labels by place
 pub labels_by_place : (cs : List Cluster) → labels cs ≡ map (label_at cs) (range_with_len 0 (length cs))
 labels_by_place cs = fill_by_all (label_at cs) (labels cs) (length cs) 0 (length_labels cs) (λ k l. refl)
+
+-- the rows by place
+pub enumerated : (cs : List Cluster) → enumerate_from 0 cs ≡ map (λ i. (i, row cs i)) (range_with_len 0 (length cs))
+enumerated cs =
+    let blank : ℕ × Cluster = (0, record { label = 0; size = 0; loss = 0; bounds = [] }) in
+    fill_by_all (λ i. (i, row cs i)) (enumerate_from 0 cs) (length cs) blank (length-enumerate_from 0 cs) (λ k l. get_or-enumerate_from 0 cs k blank l ∙ ap (λ i. (i, row cs k)) (omega arith))
 
 in_getD : (xs : List ℕ) (i : ℕ) → i < length xs → In xs (get_or xs i 0)
 in_getD [] i l = absurd (omega arith)

@@ -1,6 +1,5 @@
-use Rattle.std.proofs.Common.{◌≡◌, not, eqb, vec_items, filter, sym, ap, ◌∙◌, rules}
+use Rattle.std.proofs.Common.{not, eqb, vec_items, sym, ap, ◌∙◌, rules}
 use Rattle.std.proofs.lemmas.Fn.{filter_same}
-use Rattle.rules.specs.Clusters.{others}
 use Rattle.pool.specs.Changes.{other_rows}
 use Rattle.pool.specs.Tables.{table}
 use Rattle.pool.proofs.Rows.{table_closed}

@@ -1,9 +1,9 @@
-use Rattle.std.proofs.Common.{◌≡◌, ◌-◌, ◌^◌, ◌<◌, true, false, not, length, set, vec_items, vec_len, vec_capacity, sym, refl, ap, ◌∙◌, arith}
+use Rattle.std.proofs.Common.{◌≡◌, ◌-◌, ◌^◌, ◌<◌, true, not, length, set, vec_items, vec_len, vec_capacity, sym, refl, ap, ◌∙◌, arith}
 use Rattle.std.proofs.lemmas.List.{get_or_read}
-use Rattle.std.proofs.lemmas.Bool.{and_from, and_left, and_right, lt-ltb, le-ltb, cond-true, cond-false}
+use Rattle.std.proofs.lemmas.Bool.{and_from, lt-ltb, cond-true}
 use Rattle.rules.specs.Choosing.{listed}
 use Rattle.rules.specs.Clusters.{owner, owners, values, members}
-use Rattle.pool.specs.Changes.{is_place, can_hold, can_join, held_also, with_record}
+use Rattle.pool.specs.Changes.{can_join, held_also, with_record}
 use Rattle.pool.specs.Tables.{label_at, table}
 use Rattle.pool.proofs.Rows.{label_at_is, joined_table}
 use Rattle.pool.proofs.Pool.join.Goals as goal

@@ -1,4 +1,4 @@
-use Rattle.std.proofs.Common.{◌≡◌, ◌++◌, map, length, take, drop, vec_items}
+use Rattle.std.proofs.Common.{◌≡◌, ◌++◌, map, take, drop, vec_items}
 use Rattle.pool.specs.Changes.{replaced}
 use Rattle.pool.proofs.edits.put_row.Given as goal
 

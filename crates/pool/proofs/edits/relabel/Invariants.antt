@@ -1,4 +1,4 @@
-use Rattle.std.proofs.Common.{◌≡◌, ◌++◌, map, length, take, drop, vec_items}
+use Rattle.std.proofs.Common.{◌≡◌, ◌++◌, map, take, drop, vec_items}
 use Rattle.rules.specs.Turn.{moved}
 use Rattle.pool.proofs.edits.relabel.Given as goal
 

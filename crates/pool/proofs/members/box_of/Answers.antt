@@ -1,4 +1,4 @@
-use Rattle.std.proofs.Common.{◌≡◌, eqb, filter, fold, unwrap_or, replicate, rules, tests, sym, ap, ◌∙◌}
+use Rattle.std.proofs.Common.{eqb, unwrap_or, replicate, rules, tests, ap, ◌∙◌}
 use Rattle.std.proofs.lemmas.Iterator.{YieldsList-from_slice}
 use Rattle.std.proofs.lemmas.Iterator.Consumers.{YieldsList-from_filter, fold_from_yields_List}
 use Rattle.domain.specs.Meaning.{places}

@@ -1,4 +1,4 @@
-use Rattle.std.proofs.Common.{◌≡◌, ltb, eqb, true, rules, tests, ◌∙◌, ap}
+use Rattle.std.proofs.Common.{ltb, true, rules, tests, ◌∙◌, ap}
 use Rattle.std.proofs.lemmas.Iterator.{YieldsList-from_slice, YieldsList-from_take}
 use Rattle.std.proofs.lemmas.Iterator.Consumers.{YieldsList-at, YieldsList-from_filter, YieldsList-from_enumerate, count_from_yields_List}
 use Rattle.rules.specs.Clusters.{records}
