@@ -24,34 +24,27 @@ use Rattle.pool.specs.Tables.{cluster_of, label_at, table}
 use Rattle.ledger.specs.declared.mean.Mean.{Mean}
 use Rattle.ledger.specs.Means.{MeanOf}
 use Rattle.choice.specs.declared.arrival.Offer.{Offer}
-use Rattle.choice.specs.declared.arrival.Choice.{Choice}
-use Rattle.choice.specs.Offers.{smallest_of, lightest, ChosenFrom, Among}
+use Rattle.choice.specs.Offers.{offer_of, offers, smallest_of, lightest, best_of, decided}
+use Rattle.choice.specs.Places.{home_of}
 use Rattle.choice.specs.Losses.{loss_beside, loss_read}
 use Rattle.choice.specs.Choices.{AllFit}
 use Rattle.choice.proofs.Firsts.{minimal_through, kept_through, least_through}
-use Rattle.choice.proofs.Weighing.{candidate_tells, candidate_none, fit_tells}
-use Rattle.choice.proofs.Labels.{map_map, row, all_counting, labels_by_place, labels_table, length_table, label_open, row_is, members_some}
+use Rattle.choice.proofs.Weighing.{label_of, decided_home, best_among, best_none}
+use Rattle.choice.proofs.Labels.{map_map, row, enumerated, all_counting, labels_by_place, labels_table, length_table, label_open, row_is, members_some}
 use Rattle.choice.proofs.Widened.{covered_loss}
 
-abbrev pub offer_at : Meaning → Mean → List ℕ → List Cluster → ℕ → Offer
-offer_at m mean vs cs i = record {
-  place = i;
-  size = (row cs i).size;
-  raise = loss_read m (row cs i) vs - (row cs i).loss;
-  fits = leb (loss_read m (row cs i) vs * mean.count) mean.sum;
-}
-
--- those of the first n clusters
-abbrev pub offers : Meaning → Mean → List ℕ → List Cluster → ℕ → List Offer
-offers m mean vs cs n = map (offer_at m mean vs cs) (range_with_len 0 n)
+abbrev offer_at : Meaning → Mean → List ℕ → List Cluster → ℕ → Offer
+offer_at m mean vs cs i = offer_of m mean vs i (row cs i)
 
 -- those of all clusters to a record
-abbrev pub all_offers : Meaning → Mean → Entry → List Cluster → List Offer
-all_offers m mean e cs = offers m mean (values e) cs (length cs)
+abbrev all_offers : Meaning → Mean → Entry → List Cluster → List Offer
+all_offers m mean e cs = offers m mean (values e) cs
 
--- whose offer it is
-abbrev pub label_of : List Cluster → Offer → ℕ
-label_of cs o = label_at cs o.place
+offers_by_place : (m : Meaning) (mean : Mean) (vs : List ℕ) (cs : List Cluster) → offers m mean vs cs ≡ map (offer_at m mean vs cs) (range_with_len 0 (length cs))
+offers_by_place m mean vs cs = ap (map (λ (p : ℕ × Cluster). offer_of m mean vs p.0 p.1)) (enumerated cs) ∙ sym (map_map (λ (p : ℕ × Cluster). offer_of m mean vs p.0 p.1) (λ i. (i, row cs i)) (range_with_len 0 (length cs)))
+
+all_places : (P : Offer → Type 0) (m : Meaning) (mean : Mean) (vs : List ℕ) (cs : List Cluster) → ((i : ℕ) → i < length cs → P (offer_at m mean vs cs i)) → AllByRecursion P (offers m mean vs cs)
+all_places P m mean vs cs h = subst (AllByRecursion P) (sym (offers_by_place m mean vs cs)) (All-map _ (offer_at m mean vs cs) (range_with_len 0 (length cs)) (all_counting (λ i. P (offer_at m mean vs cs i)) (length cs) h))
 
 pub loss_read_is : (m : Meaning) (vs : List ℕ) (x : Cluster) → Allowed m x.bounds → Admitted m vs → x.loss ≡ box_loss m x.bounds → loss_read m x vs ≡ loss_beside m x vs
 loss_read_is m vs x p q l =
@@ -84,10 +77,10 @@ module _ (m : Meaning) (s : State) (e : Entry) (mean : Mean) (cs : List Cluster)
       }
 
   agree : AllByRecursion (λ o. Agrees m s e (label_of cs o) o) (all_offers m mean e cs)
-  agree = All-map _ (offer_at m mean (values e) cs) (range_with_len 0 (length cs)) (all_counting (λ i. Agrees m s e (label_at cs i) (offer_at m mean (values e) cs i)) (length cs) agrees_at)
+  agree = all_places (λ o. Agrees m s e (label_of cs o) o) m mean (values e) cs agrees_at
 
   open_by_place : clusters s.held ≡ map (label_of cs) (all_offers m mean e cs)
-  open_by_place = sym (labels_table m s.held cs t) ∙ labels_by_place cs ∙ map_map (label_of cs) (offer_at m mean (values e) cs) (range_with_len 0 (length cs))
+  open_by_place = sym (labels_table m s.held cs t) ∙ labels_by_place cs ∙ map_map (label_of cs) (offer_at m mean (values e) cs) (range_with_len 0 (length cs)) ∙ ap (map (label_of cs)) (sym (offers_by_place m mean (values e) cs))
 
   -- the candidates, and the offers that raise the loss least
   candidates_by_place : candidates m s e ≡ map (label_of cs) (lightest (all_offers m mean e cs))
@@ -107,41 +100,17 @@ module _ (m : Meaning) (s : State) (e : Entry) (mean : Mean) (cs : List Cluster)
       ∙ kept_through (label_of cs) (fits m s e) (λ o. o.fits) (lightest (all_offers m mean e cs)) (All-weaker _ _ (λ o g. g.fit) (lightest (all_offers m mean e cs)) agree_lightest)
 
   -- the choice from all offers is that of the rules
-  pub home_is : (g : Settings) (c : Choice) → ChosenFrom (all_offers m mean e cs) c
-      → home m g s e ≡ taker (option_map (label_of cs) c.fit) (ltb (length cs) g.beta) (option_map (label_of cs) c.candidate) e.position
-  home_is g c h =
+  pub home_is : (g : Settings) → home m g s e ≡ home_of (decided (ltb (length cs) g.beta) (best_of (all_offers m mean e cs))) cs e.position
+  home_is g =
       let xs = lightest (all_offers m mean e cs) in
-      let fit : smallest s (fitting m s e) ≡ option_map (label_of cs) c.fit =
-      ap (smallest s) fitting_by_place ∙ smallest_by_place (filter (λ o. o.fits) xs) (all_kept_by _ _ xs agree_lightest) ∙ ap (option_map (label_of cs)) (sym h.fit) in
-      let candidate : smallest s (candidates m s e) ≡ option_map (label_of cs) c.candidate =
-      ap (smallest s) candidates_by_place ∙ smallest_by_place xs agree_lightest ∙ ap (option_map (label_of cs)) (sym h.candidate) in
-      ap (λ x. taker x (ltb (length (clusters s.held)) g.beta) (smallest s (candidates m s e)) e.position) fit
-      ∙ ap (λ n. taker (option_map (label_of cs) c.fit) (ltb n g.beta) (smallest s (candidates m s e)) e.position) (sym (length_table m s.held cs t))
-      ∙ ap (λ x. taker (option_map (label_of cs) c.fit) (ltb (length cs) g.beta) x e.position) candidate
+      ap (λ x. taker x (ltb (length (clusters s.held)) g.beta) (smallest s (candidates m s e)) e.position) (ap (smallest s) fitting_by_place ∙ smallest_by_place (filter (λ o. o.fits) xs) (all_kept_by _ _ xs agree_lightest))
+      ∙ ap (λ n. taker (option_map (label_of cs) (smallest_of (filter (λ o. o.fits) xs))) (ltb n g.beta) (smallest s (candidates m s e)) e.position) (sym (length_table m s.held cs t))
+      ∙ ap (λ x. taker (option_map (label_of cs) (smallest_of (filter (λ o. o.fits) xs))) (ltb (length cs) g.beta) x e.position) (ap (smallest s) candidates_by_place ∙ smallest_by_place xs agree_lightest)
+      ∙ decided_home cs xs (ltb (length cs) g.beta) e.position
 
--- the places of offers
-pub offers_within : (m : Meaning) (mean : Mean) (vs : List ℕ) (cs : List Cluster) (n : ℕ) (o : Offer) → In (offers m mean vs cs n) o → o.place < n
-offers_within m mean vs cs n o i = in_all (λ x. x.place < n) (offers m mean vs cs n) o (All-map _ (offer_at m mean vs cs) (range_with_len 0 n) (all_counting (λ k. k < n) n (λ k l. l))) i
+-- the best offer is that of a cluster, if there is one
+pub best_within : (m : Meaning) (mean : Mean) (vs : List ℕ) (cs : List Cluster) (o : Offer) → best_of (offers m mean vs cs) ≡ Some o → o.place < length cs
+best_within m mean vs cs o e = in_all (λ x. x.place < length cs) (offers m mean vs cs) o (all_places (λ x. x.place < length cs) m mean vs cs (λ i l. l)) (best_among (offers m mean vs cs) o e).0
 
--- what is decided has a place, or there is room
-pub decided_within : (m : Meaning) (mean : Mean) (vs : List ℕ) (cs : List Cluster) (n : ℕ) (c : Choice) (room : Bool) (r : Option ℕ) → ChosenFrom (offers m mean vs cs n) c → Among c room r → IfSome r (λ i. i < n)
-decided_within m mean vs cs n c room None h d = tt
-decided_within m mean vs cs n c room (Some i) h d =
-    let at : In (offers m mean vs cs n) d.0 = ⊎_elim (fit_tells (offers m mean vs cs n) c d.0 h) (λ e. (candidate_tells (offers m mean vs cs n) c d.0 h e).0) d.2 in
-    omega (arith, d.1, offers_within m mean vs cs n d.0 at)
-
-pub decided_room : (m : Meaning) (mean : Mean) (vs : List ℕ) (cs : List Cluster) (n beta : ℕ) (c : Choice) (r : Option ℕ) → ChosenFrom (offers m mean vs cs n) c → Among c (ltb n beta) r → IfNone r ((n < beta) ⊎ (n ≡ 0))
-decided_room m mean vs cs n beta c (Some i) h d = tt
-decided_room m mean vs cs n beta c None h d = ⊎_elim {C = (n < beta) ⊎ (n ≡ 0)}
-    (λ e. inl (ltb-true n beta e))
-    (λ e. inr (sym (length-map-range_with_len (offer_at m mean vs cs) 0 n) ∙ ap length (candidate_none (offers m mean vs cs n) c h e)))
-    d
-
--- one cluster more is considered
-pub offers_more : (m : Meaning) (mean : Mean) (vs : List ℕ) (cs : List Cluster) (n loss rise : ℕ) (fit : Bool) (r : Choice) → loss ≡ loss_read m (row cs n) vs → rise ≡ loss - (row cs n).loss → fit ≡ leb (loss * mean.count) mean.sum
-    → ChosenFrom (offers m mean vs cs n ++ record { place = n; size = (row cs n).size; raise = rise; fits = fit } ∷ []) r → ChosenFrom (offers m mean vs cs (n + 1)) r
-offers_more m mean vs cs n loss rise fit r l p q h =
-    subst (λ xs. ChosenFrom xs r)
-    (ap (λ k. offers m mean vs cs n ++ record { place = n; size = (row cs n).size; raise = k; fits = fit } ∷ []) (p ∙ ap (λ x. x - (row cs n).loss) l)
-    ∙ ap (λ b. offers m mean vs cs n ++ record { place = n; size = (row cs n).size; raise = loss_read m (row cs n) vs - (row cs n).loss; fits = b } ∷ []) (q ∙ ap (λ x. leb (x * mean.count) mean.sum) l)
-    ∙ sym (map-range_with_len_more (offer_at m mean vs cs) 0 n n (omega arith))) h
+pub none_open : (m : Meaning) (mean : Mean) (vs : List ℕ) (cs : List Cluster) → best_of (offers m mean vs cs) ≡ None → length cs ≡ 0
+none_open m mean vs cs e = sym (ap length (offers_by_place m mean vs cs) ∙ length-map-range_with_len (offer_at m mean vs cs) 0 (length cs)) ∙ ap length (best_none (offers m mean vs cs) e)

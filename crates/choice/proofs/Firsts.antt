@@ -21,7 +21,7 @@ module _ {X : Type 0} where
   kept_none p (x ∷ xs) a = ap (λ b. cond b (x ∷ filter p xs) (filter p xs)) a.0 ∙ kept_none p xs a.1
 
   -- one more at the end
-  kept_push : (p : X → Bool) (xs : List X) (y : X) (b : Bool) → p y ≡ b → filter p (xs ++ y ∷ []) ≡ filter p xs ++ cond b (y ∷ []) []
+  pub kept_push : (p : X → Bool) (xs : List X) (y : X) (b : Bool) → p y ≡ b → filter p (xs ++ y ∷ []) ≡ filter p xs ++ cond b (y ∷ []) []
   kept_push p xs y b e = filter-append p xs (y ∷ []) ∙ ap (λ t. filter p xs ++ cond t (y ∷ []) []) e
 
   head_append : (xs ys : List X) (x : X) → head xs ≡ Some x → head (xs ++ ys) ≡ Some x

@@ -1,8 +1,8 @@
 -- The labels of the table, and what its rows tell of the held records.
 use Rattle.std.proofs.Common.{◌≡◌, ℕ, zero, suc, ◌<◌, ◌≤◌, Bool, true, false, cond, eqb, ltb, List, [], ◌∷◌, map, length, get_or, filter, sym, refl, ap, ◌∙◌, subst, inl, inr, ⊎_elim, arith}
-use Rattle.std.specs.List.{range_with_len, AllByRecursion}
+use Rattle.std.specs.List.{range_with_len, enumerate_from, AllByRecursion}
 use Rattle.std.proofs.lemmas.List.{get_or-map, length-map}
-use Rattle.std.proofs.lemmas.List.FromFn.{length-range_with_len, get_or-range_with_len, fill_by_all}
+use Rattle.std.proofs.lemmas.List.FromFn.{length-range_with_len, get_or-range_with_len, fill_by_all, length-enumerate_from, get_or-enumerate_from}
 use Rattle.std.proofs.ByRecursion.{All-from_get_or}
 use Rattle.std.proofs.lemmas.Bool.{eq-eqb}
 use Rattle.domain.specs.Meaning.{Meaning}
@@ -34,20 +34,6 @@ labels_rows m hs (x ∷ xs) = ap (λ ys. x ∷ ys) (labels_rows m hs xs)
 pub labels_table : (m : Meaning) (hs : List Held) (cs : List Cluster) → cs ≡ table m hs → labels cs ≡ clusters hs
 labels_table m hs cs e = ap labels e ∙ labels_rows m hs (clusters hs)
 
--- what is listed has a place
-listed_place : (xs : List ℕ) (x : ℕ) → In xs x → (i : ℕ) × (i < length xs) × (get_or xs i 0 ≡ x)
-listed_place [] x i = absurd i
-listed_place (y ∷ ys) x i = ⊎_elim {C = (i : ℕ) × (i < length (y ∷ ys)) × (get_or (y ∷ ys) i 0 ≡ x)}
-    (λ e. (0, omega arith, e))
-    (λ j. let r = listed_place ys x j in (suc r.0, omega (arith, r.1), r.2))
-    i
-
--- the cluster of a held record stands in the table
-pub held_place : (m : Meaning) (hs : List Held) (cs : List Cluster) (h : Held) → cs ≡ table m hs → In hs h → (i : ℕ) × (i < length cs) × (label_at cs i ≡ h.label)
-held_place m hs cs h e i =
-    let r = listed_place (labels cs) h.label (subst (λ xs. In xs h.label) (sym (labels_table m hs cs e)) ((clusters_law hs).listed h i)) in
-    (r.0, omega (arith, r.1, length_labels cs), r.2)
-
 pub map_map : {X Y Z : Type 0} (f : Y → Z) (k : X → Y) (xs : List X) → map (λ x. f (k x)) xs ≡ map f (map k xs)
 map_map f k [] = refl
 map_map f k (x ∷ xs) = ap (λ ys. f (k x) ∷ ys) (map_map f k xs)
@@ -78,6 +64,12 @@ all_counting P n h =
 -- the labels by place
 pub labels_by_place : (cs : List Cluster) → labels cs ≡ map (label_at cs) (range_with_len 0 (length cs))
 labels_by_place cs = fill_by_all (label_at cs) (labels cs) (length cs) 0 (length_labels cs) (λ k l. refl)
+
+-- the rows by place
+pub enumerated : (cs : List Cluster) → enumerate_from 0 cs ≡ map (λ i. (i, row cs i)) (range_with_len 0 (length cs))
+enumerated cs =
+    let blank : ℕ × Cluster = (0, record { label = 0; size = 0; loss = 0; bounds = [] }) in
+    fill_by_all (λ i. (i, row cs i)) (enumerate_from 0 cs) (length cs) blank (length-enumerate_from 0 cs) (λ k l. get_or-enumerate_from 0 cs k blank l ∙ ap (λ i. (i, row cs k)) (omega arith))
 
 in_getD : (xs : List ℕ) (i : ℕ) → i < length xs → In xs (get_or xs i 0)
 in_getD [] i l = absurd (omega arith)

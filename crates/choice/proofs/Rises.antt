@@ -1,6 +1,6 @@
 -- How much the other clusters of a table raise the loss of one, as the rules say.
-use Rattle.std.proofs.Common.{◌≡◌, ℕ, zero, suc, ◌+◌, ◌-◌, ◌<◌, ◌≤◌, Bool, true, false, cond, not, eqb, List, [], ◌∷◌, ◌++◌, map, length, get_or, filter, Option, sym, refl, ap, ◌∙◌, subst, inl, inr, ⊎_elim, arith}
-use Rattle.std.specs.List.{range_with_len}
+use Rattle.std.proofs.Common.{◌≡◌, ℕ, zero, suc, ◌+◌, ◌-◌, ◌<◌, ◌≤◌, Bool, true, false, cond, not, eqb, List, [], ◌∷◌, ◌++◌, map, length, get_or, filter, Option, Some, None, MatchOption, ◌⊎◌, sym, refl, ap, ◌∙◌, subst, inl, inr, ⊎_elim, arith}
+use Rattle.std.specs.List.{range_with_len, enumerate_from}
 use Rattle.std.specs.Option.{option_map}
 use Rattle.std.proofs.lemmas.List.FromFn.{map-range_with_len_more}
 use Rattle.std.proofs.lemmas.List.Elements.{filter-append}
@@ -25,11 +25,12 @@ use Rattle.pool.specs.declared.Cluster.{Cluster}
 use Rattle.pool.specs.Tables.{labels, label_at, table}
 use Rattle.choice.specs.declared.joining.Rise.{Rise}
 use Rattle.choice.specs.Choices.{AllFit}
-use Rattle.choice.proofs.Firsts.{kept_through, least_through}
-use Rattle.choice.proofs.Labels.{map_map, length_labels, row, all_counting, labels_by_place, labels_table, label_open, row_is, members_some}
+use Rattle.choice.specs.Offers.{rise_of}
+use Rattle.choice.proofs.Firsts.{kept_through, least_through, least_tells, least_none}
+use Rattle.choice.proofs.Labels.{map_map, kept_map, enumerated, length_labels, row, all_counting, labels_by_place, labels_table, label_open, row_is, members_some}
 
 abbrev pub rise_at : Meaning → List Cluster → ℕ → ℕ → Rise
-rise_at m cs at i = record { place = i; raise = box_loss m (join_boxes m (row cs at).bounds (row cs i).bounds) - (row cs at).loss }
+rise_at m cs at i = rise_of m (row cs at) i (row cs i)
 
 -- the places below n but for one
 abbrev pub other_places : ℕ → ℕ → List ℕ
@@ -42,21 +43,11 @@ rises m cs at n = map (rise_at m cs at) (other_places at n)
 abbrev pub label_of : List Cluster → Rise → ℕ
 label_of cs x = label_at cs x.place
 
--- ---- one place more
-
-counting_more : (n : ℕ) → range_with_len 0 (n + 1) ≡ range_with_len 0 n ++ n ∷ []
-counting_more n = sym (map-id (range_with_len 0 (n + 1))) ∙ map-range_with_len_more (λ x. x) 0 n n (omega arith) ∙ ap (λ xs. xs ++ n ∷ []) (map-id (range_with_len 0 n))
-
-places_more : (at n : ℕ) (b : Bool) → eqb n at ≡ b → other_places at (n + 1) ≡ other_places at n ++ cond (not b) (n ∷ []) []
-places_more at n b e =
-    ap (filter (λ i. not (eqb i at))) (counting_more n) ∙ filter-append (λ i. not (eqb i at)) (range_with_len 0 n) (n ∷ [])
-    ∙ ap (λ t. other_places at n ++ cond (not t) (n ∷ []) []) e
-
-pub rises_same : (m : Meaning) (cs : List Cluster) (at n : ℕ) → n ≡ at → rises m cs at (n + 1) ≡ rises m cs at n
-rises_same m cs at n e = ap (map (rise_at m cs at)) (places_more at n true (eq-eqb n at e) ∙ append-nil (other_places at n))
-
-pub rises_more : (m : Meaning) (cs : List Cluster) (at n : ℕ) → (n ≡ at → ⊥) → rises m cs at (n + 1) ≡ rises m cs at n ++ rise_at m cs at n ∷ []
-rises_more m cs at n d = ap (map (rise_at m cs at)) (places_more at n false (ne_eqb n at d)) ∙ map-append (rise_at m cs at) (other_places at n) (n ∷ [])
+pub rises_by_place : (m : Meaning) (cs : List Cluster) (at : ℕ) → map (λ (p : ℕ × Cluster). rise_of m (row cs at) p.0 p.1) (filter (λ p. not (eqb p.0 at)) (enumerate_from 0 cs)) ≡ rises m cs at (length cs)
+rises_by_place m cs at =
+    ap (λ ps. map (λ (p : ℕ × Cluster). rise_of m (row cs at) p.0 p.1) (filter (λ p. not (eqb p.0 at)) ps)) (enumerated cs)
+    ∙ ap (map (λ (p : ℕ × Cluster). rise_of m (row cs at) p.0 p.1)) (kept_map (λ (p : ℕ × Cluster). not (eqb p.0 at)) (λ i. (i, row cs i)) (range_with_len 0 (length cs)))
+    ∙ sym (map_map (λ (p : ℕ × Cluster). rise_of m (row cs at) p.0 p.1) (λ i. (i, row cs i)) (other_places at (length cs)))
 
 -- ---- places of the chosen
 
@@ -81,6 +72,16 @@ rises_none m cs at (suc (suc n)) e = ⊎_elim {C = suc (suc n) ≤ 1}
 
     gone : (k : ℕ) → (k ≡ at → ⊥) → In (range_with_len 0 (suc (suc n))) k → ⊥
     gone k d i = none (rise_at m cs at k) (subst (λ xs. In xs (rise_at m cs at k)) e (in_map (rise_at m cs at) (other_places at (suc (suc n))) k (in_kept (λ i. not (eqb i at)) (range_with_len 0 (suc (suc n))) k i (not_from_false _ (ne_eqb k at d)))))
+
+-- of the choice among them
+pub other_is : (m : Meaning) (cs : List Cluster) (at : ℕ) (best : Option Rise) → best ≡ least (λ x. x.raise) (rises m cs at (length cs))
+    → MatchOption (option_map (λ (x : Rise). x.place) best) ((length cs ≤ 1) ⊎ (length cs ≤ at)) (λ j. (j < length cs) × (j ≡ at → ⊥))
+other_is m cs at None b = inl (rises_none m cs at (length cs) (least_none (λ x. x.raise) (rises m cs at (length cs)) (sym b)))
+other_is m cs at (Some x) b = rises_within m cs at (length cs) x (least_tells (λ x. x.raise) (rises m cs at (length cs)) x (sym b)).0
+
+label_of_place : (cs : List Cluster) (best : Option Rise) → option_map (label_of cs) best ≡ option_map (label_at cs) (option_map (λ (x : Rise). x.place) best)
+label_of_place cs None = refl
+label_of_place cs (Some x) = refl
 
 -- ---- as the rules say
 
@@ -133,9 +134,10 @@ module _ (m : Meaning) (hs : List Held) (cs : List Cluster) (t : cs ≡ table m 
       ∙ kept_through (label_at cs) (λ d. not (eqb d (label_at cs at))) (λ i. not (eqb i at)) (range_with_len 0 (length cs)) (all_counting (λ i. not (eqb (label_at cs i) (label_at cs at)) ≡ not (eqb i at)) (length cs) (λ i l. ap not (same_place i l)))
       ∙ map_map (label_of cs) (rise_at m cs at) (other_places at (length cs))
 
-  pub easiest_is : (best : Option Rise) → best ≡ least (λ x. x.raise) (rises m cs at (length cs)) → easiest m (label_at cs at) hs ≡ option_map (label_of cs) best
+  pub easiest_is : (best : Option Rise) → best ≡ least (λ x. x.raise) (rises m cs at (length cs)) → easiest m (label_at cs at) hs ≡ option_map (label_at cs) (option_map (λ (x : Rise). x.place) best)
   easiest_is best b =
       ap (least (λ d. raise m (members (label_at cs at) hs) (members d hs))) others_by_place
       ∙ least_through (label_of cs) (λ d. raise m (members (label_at cs at) hs) (members d hs)) (λ x. x.raise) (rises m cs at (length cs))
       (All-map _ (rise_at m cs at) (other_places at (length cs)) (all_kept_by _ _ (range_with_len 0 (length cs)) (all_counting (λ i. raise m (members (label_at cs at) hs) (members (label_at cs i) hs) ≡ (rise_at m cs at i).raise) (length cs) raise_is)))
       ∙ ap (option_map (label_of cs)) (sym b)
+      ∙ label_of_place cs best

@@ -1,13 +1,23 @@
--- One offer more.
-use Rattle.std.proofs.Common.{◌≡◌, ℕ, ◌<◌, ◌≤◌, cond, List, [], ◌∷◌, ◌++◌, length, Some, None, filter, Option, sym, refl, ap, ◌∙◌, subst, arith}
-use Rattle.std.proofs.lemmas.List.Elements.{filter-append}
-use Rattle.std.proofs.lemmas.Bool.{eq-eqb}
+-- One offer more, and what the best one tells.
+use Rattle.std.proofs.Common.{◌≡◌, ℕ, ◌<◌, ◌≤◌, Bool, true, false, cond, not, ltb, ◌⊎◌, ◌||◌, List, [], ◌∷◌, ◌++◌, length, Some, None, IfSome, IfNone, Option, sym, refl, ap, ◌∙◌, subst, inl, inr, ⊎_elim, arith}
+use Rattle.std.specs.Cmp.{ranks}
+use Rattle.std.specs.Option.{option_map}
+use Rattle.std.specs.Ordering.{min_by_ordering, ordering_then, nat_cmp, bool_cmp, MatchOrdering}
+use Rattle.std.specs.declared.cmp.Ordering.{Ordering}
+use Rattle.std.specs.declared.cmp.Ordering.TheVariants.{Less, Equal, Greater}
+use Rattle.std.specs.List.{reduce}
+use Rattle.std.proofs.lemmas.List.{append-nil}
+use Rattle.std.proofs.lemmas.Bool.{eq-eqb, cases_order, ltb-true}
+use Rattle.rules.specs.Arrival.{taker}
 use Rattle.rules.specs.Choosing.{In, lowest}
-use Rattle.rules.proofs.Totals.{kept_in}
+use Rattle.rules.proofs.Totals.{in_kept, kept_in}
+use Rattle.pool.specs.declared.Cluster.{Cluster}
+use Rattle.pool.specs.Tables.{label_at}
 use Rattle.choice.specs.declared.arrival.Offer.{Offer}
-use Rattle.choice.specs.declared.arrival.Choice.{Choice}
-use Rattle.choice.specs.Offers.{smallest_of, lightest, ChosenFrom}
-use Rattle.choice.proofs.Firsts.{in_some, minimal_tells, minimal_none, minimal_over, minimal_same, minimal_under, least_tells, least_none, least_first}
+use Rattle.choice.specs.Offers.{smallest_of, lightest, fitting, rather, weighed, best_of, decided}
+use Rattle.choice.specs.Places.{home_of}
+use Rattle.choice.proofs.Firsts.{in_some, kept_push, minimal_tells, minimal_none, minimal_over, minimal_same, minimal_under, least_tells, least_none, least_first}
+use Rattle.choice.proofs.Lowest.{lower, reduced, least_more}
 
 abbrev size_of : Offer → ℕ
 size_of x = x.size
@@ -15,48 +25,176 @@ size_of x = x.size
 abbrev raise_of : Offer → ℕ
 raise_of x = x.raise
 
--- the same offers are the lightest
-moved : (xs ys : List Offer) (c : Choice) → lightest ys ≡ lightest xs → ChosenFrom xs c → ChosenFrom ys c
-moved xs ys c e h = record { candidate = h.candidate ∙ ap smallest_of (sym e); fit = h.fit ∙ ap (λ zs. smallest_of (filter (λ x. x.fits) zs)) (sym e) }
+-- by the raise, then those that fit, then by the size
+abbrev pub rank : Offer → ℕ × Bool × ℕ
+rank x = (x.raise, not x.fits, x.size)
 
-pub lightest_one : (o : Offer) → lightest (o ∷ []) ≡ o ∷ []
-lightest_one o = ap (λ b. cond b (o ∷ []) []) (eq-eqb o.raise o.raise refl)
+abbrev pub by_rank : ℕ × Bool × ℕ → ℕ × Bool × ℕ → Ordering
+by_rank x y = ordering_then (ordering_then (nat_cmp x.0 y.0) (bool_cmp x.1 y.1)) (nat_cmp x.2 y.2)
 
--- the candidate's raise is the least
-pub candidate_tells : (xs : List Offer) (c : Choice) (b : Offer) → ChosenFrom xs c → c.candidate ≡ Some b → In xs b × (b.raise ≡ lowest raise_of xs)
-candidate_tells xs c b h e = minimal_tells raise_of xs b (least_tells size_of (lightest xs) b (sym h.candidate ∙ e)).0
+-- the best of offers is the smallest that fits, or the smallest where none fits
+abbrev Best : List Offer → Offer → Type 0
+Best xs b = ((smallest_of (fitting xs) ≡ Some b) × (b.fits ≡ true)) ⊎ ((fitting xs ≡ []) × (smallest_of xs ≡ Some b) × (b.fits ≡ false))
 
-pub fit_tells : (xs : List Offer) (c : Choice) (b : Offer) → ChosenFrom xs c → c.fit ≡ Some b → In xs b
-fit_tells xs c b h e =
-    let i = (least_tells size_of (filter (λ x. x.fits) (lightest xs)) b (sym h.fit ∙ e)).0 in
-    (minimal_tells raise_of xs b (kept_in (λ x. x.fits) (lightest xs) b i).0).0
+best_is : (xs : List Offer) (b : Offer) → weighed xs ≡ Some b → Best xs b
+best_is xs b e = go (smallest_of (fitting xs)) refl e
+  where
+    misfit : fitting xs ≡ [] → In xs b → (t : Bool) → b.fits ≡ t → b.fits ≡ false
+    misfit none i true f = absurd (subst (λ ys. In ys b) none (in_kept (λ x. x.fits) xs b i f))
+    misfit none i false f = f
 
-pub candidate_none : (xs : List Offer) (c : Choice) → ChosenFrom xs c → c.candidate ≡ None → xs ≡ []
-candidate_none xs c h e = minimal_none raise_of xs (least_none size_of (lightest xs) (sym h.candidate ∙ e))
+    go : (f : Option Offer) → smallest_of (fitting xs) ≡ f → rather f (smallest_of xs) ≡ Some b → Best xs b
+    go (Some x) h e = inl (h ∙ e, (kept_in (λ x. x.fits) xs b (least_tells size_of (fitting xs) b (h ∙ e)).0).1)
+    go None h e =
+        let none = least_none size_of (fitting xs) h in
+        inr (none, e, misfit none (least_tells size_of xs b e).0 b.fits refl)
 
-module _ (xs : List Offer) (c : Choice) (b o : Offer) (h : ChosenFrom xs c) (e : c.candidate ≡ Some b) where
-  some : 1 ≤ length xs
-  some = in_some xs b (candidate_tells xs c b h e).0
+best_in : (xs : List Offer) (b : Offer) → Best xs b → In xs b
+best_in xs b (inl h) = (kept_in (λ x. x.fits) xs b (least_tells size_of (fitting xs) b h.0).0).0
+best_in xs b (inr h) = (least_tells size_of xs b h.1).0
 
-  pub weigh_over : b.raise < o.raise → ChosenFrom (xs ++ o ∷ []) c
-  weigh_over l = moved xs (xs ++ o ∷ []) c (minimal_over raise_of xs o some (omega (arith, (candidate_tells xs c b h e).1))) h
+pub best_among : (xs : List Offer) (b : Offer) → best_of xs ≡ Some b → In xs b × (b.raise ≡ lowest raise_of xs)
+best_among xs b e = minimal_tells raise_of xs b (best_in (lightest xs) b (best_is (lightest xs) b e))
 
-  pub weigh_under : (r : Choice) → o.raise < b.raise → ChosenFrom (o ∷ []) r → ChosenFrom (xs ++ o ∷ []) r
-  weigh_under r l one = moved (o ∷ []) (xs ++ o ∷ []) r (minimal_under raise_of xs o some (omega (arith, (candidate_tells xs c b h e).1)) ∙ sym (lightest_one o)) one
+pub best_none : (xs : List Offer) → best_of xs ≡ None → xs ≡ []
+best_none xs e = minimal_none raise_of xs (go (smallest_of (fitting (lightest xs))) e)
+  where
+    go : (f : Option Offer) → rather f (smallest_of (lightest xs)) ≡ None → lightest xs ≡ []
+    go (Some x) h = let z : ◌≡◌ {A = ℕ} 0 1 = cc in absurd (omega (arith, z))
+    go None h = least_none size_of (lightest xs) h
 
-  pub weigh_same : (r : Choice) → b.raise ≡ o.raise → r.candidate ≡ smallest_of (lightest xs ++ o ∷ []) → r.fit ≡ smallest_of (filter (λ x. x.fits) (lightest xs) ++ filter (λ x. x.fits) (o ∷ [])) → ChosenFrom (xs ++ o ∷ []) r
-  weigh_same r s p q =
-      let m = minimal_same raise_of xs o some (omega (arith, (candidate_tells xs c b h e).1)) in
-      record {
-        candidate = p ∙ ap smallest_of (sym m);
-        fit = q ∙ ap smallest_of (sym (filter-append (λ x. x.fits) (lightest xs) (o ∷ []))) ∙ ap (λ zs. smallest_of (filter (λ x. x.fits) zs)) (sym m);
-      }
+-- ---- one offer more
 
-pub weigh_first : (xs : List Offer) (c r : Choice) (o : Offer) → ChosenFrom xs c → c.candidate ≡ None → ChosenFrom (o ∷ []) r → ChosenFrom (xs ++ o ∷ []) r
-weigh_first xs c r o h e one = subst (λ ys. ChosenFrom (ys ++ o ∷ []) r) (sym (candidate_none xs c h e)) one
+weighed_one : (o : Offer) → weighed (o ∷ []) ≡ Some o
+weighed_one o = go o.fits refl
+  where
+    alone : smallest_of (o ∷ []) ≡ Some o
+    alone = least_first size_of [] o refl
 
-pub weigh_one : (o : Offer) (f : Option Offer) → f ≡ smallest_of (filter (λ x. x.fits) (o ∷ [])) → ChosenFrom (o ∷ []) (record { candidate = Some o; fit = f })
-weigh_one o f q = record {
-  candidate = sym (least_first size_of [] o refl) ∙ ap smallest_of (sym (lightest_one o));
-  fit = q ∙ ap (λ zs. smallest_of (filter (λ x. x.fits) zs)) (sym (lightest_one o));
-}
+    go : (t : Bool) → o.fits ≡ t → weighed (o ∷ []) ≡ Some o
+    go true f = ap (λ t. rather (smallest_of (cond t (o ∷ []) [])) (smallest_of (o ∷ []))) f ∙ ap (λ s. rather s (smallest_of (o ∷ []))) alone
+    go false f = ap (λ t. rather (smallest_of (cond t (o ∷ []) [])) (smallest_of (o ∷ []))) f ∙ alone
+
+-- of equal raises
+abbrev by_fit : Offer → Offer → Ordering
+by_fit b o = ordering_then (bool_cmp (not b.fits) (not o.fits)) (nat_cmp b.size o.size)
+
+module _ (xs : List Offer) (b o : Offer) where
+  grown : (t : Bool) → o.fits ≡ t → fitting (xs ++ o ∷ []) ≡ fitting xs ++ cond t (o ∷ []) []
+  grown t f = kept_push (λ x. x.fits) xs o t f
+
+  fits_as : (s t : Bool) → b.fits ≡ s → o.fits ≡ t → min_by_ordering (ordering_then (bool_cmp (not s) (not t)) (nat_cmp b.size o.size)) b o ≡ min_by_ordering (by_fit b o) b o
+  fits_as s t e f = ap (λ w. min_by_ordering (ordering_then (bool_cmp (not w) (not t)) (nat_cmp b.size o.size)) b o) (sym e) ∙ ap (λ w. min_by_ordering (ordering_then (bool_cmp (not b.fits) (not w)) (nat_cmp b.size o.size)) b o) (sym f)
+
+  weighed_more : Best xs b → (t : Bool) → o.fits ≡ t → weighed (xs ++ o ∷ []) ≡ Some (min_by_ordering (by_fit b o) b o)
+  weighed_more (inl h) true f =
+      ap (λ ys. rather (smallest_of ys) (smallest_of (xs ++ o ∷ []))) (grown true f)
+      ∙ ap (λ s. rather s (smallest_of (xs ++ o ∷ []))) (least_more size_of (fitting xs) b o h.0) ∙ ap Some (fits_as true true h.1 f)
+  weighed_more (inl h) false f =
+      ap (λ ys. rather (smallest_of ys) (smallest_of (xs ++ o ∷ []))) (grown false f ∙ append-nil (fitting xs))
+      ∙ ap (λ s. rather s (smallest_of (xs ++ o ∷ []))) h.0 ∙ ap Some (fits_as true false h.1 f)
+  weighed_more (inr h) true f =
+      ap (λ ys. rather (smallest_of ys) (smallest_of (xs ++ o ∷ []))) (grown true f ∙ ap (λ ys. ys ++ o ∷ []) h.0)
+      ∙ ap (λ s. rather s (smallest_of (xs ++ o ∷ []))) (least_first size_of [] o refl) ∙ ap Some (fits_as false true h.2 f)
+  weighed_more (inr h) false f =
+      ap (λ ys. rather (smallest_of ys) (smallest_of (xs ++ o ∷ []))) (grown false f ∙ append-nil (fitting xs) ∙ h.0)
+      ∙ least_more size_of xs b o h.1 ∙ ap Some (fits_as false false h.2 f)
+
+best_more : (xs : List Offer) (b o : Offer) → best_of xs ≡ Some b → best_of (xs ++ o ∷ []) ≡ Some (lower rank by_rank b o)
+best_more xs b o e = ⊎_elim {C = best_of (xs ++ o ∷ []) ≡ Some (lower rank by_rank b o)}
+    (λ s. ap weighed (minimal_same raise_of xs o some (omega (arith, s, at))) ∙ weighed_more (lightest xs) b o (best_is (lightest xs) b e) o.fits refl ∙ ap Some (ordered Equal (same s)))
+    (λ d. ⊎_elim {C = best_of (xs ++ o ∷ []) ≡ Some (lower rank by_rank b o)}
+    (λ l. ap weighed (minimal_over raise_of xs o some (omega (arith, l, at))) ∙ e ∙ ap Some (ordered Less (less l)))
+    (λ l. ap weighed (minimal_under raise_of xs o some (omega (arith, l, at))) ∙ weighed_one o ∙ ap Some (ordered Greater (more l))) d)
+    (cases_order b.raise o.raise)
+  where
+    at : b.raise ≡ lowest raise_of xs
+    at = (best_among xs b e).1
+
+    some : 1 ≤ length xs
+    some = in_some xs b (best_among xs b e).0
+
+    ordered : (w : Ordering) → w ≡ nat_cmp b.raise o.raise → min_by_ordering (ordering_then (ordering_then w (bool_cmp (not b.fits) (not o.fits))) (nat_cmp b.size o.size)) b o ≡ lower rank by_rank b o
+    ordered w k = ap (λ w. min_by_ordering (ordering_then (ordering_then w (bool_cmp (not b.fits) (not o.fits))) (nat_cmp b.size o.size)) b o) k
+
+    same : b.raise ≡ o.raise → Equal ≡ nat_cmp b.raise o.raise
+    same l = go (nat_cmp b.raise o.raise) (ranks b.raise o.raise)
+      where
+        go : (w : Ordering) → MatchOrdering w (b.raise < o.raise) (b.raise ≡ o.raise) (o.raise < b.raise) → Equal ≡ w
+        go Less h = absurd (omega (arith, h, l))
+        go Equal h = refl
+        go Greater h = absurd (omega (arith, h, l))
+
+    less : b.raise < o.raise → Less ≡ nat_cmp b.raise o.raise
+    less l = go (nat_cmp b.raise o.raise) (ranks b.raise o.raise)
+      where
+        go : (w : Ordering) → MatchOrdering w (b.raise < o.raise) (b.raise ≡ o.raise) (o.raise < b.raise) → Less ≡ w
+        go Less h = refl
+        go Equal h = absurd (omega (arith, h, l))
+        go Greater h = absurd (omega (arith, h, l))
+
+    more : o.raise < b.raise → Greater ≡ nat_cmp b.raise o.raise
+    more l = go (nat_cmp b.raise o.raise) (ranks b.raise o.raise)
+      where
+        go : (w : Ordering) → MatchOrdering w (b.raise < o.raise) (b.raise ≡ o.raise) (o.raise < b.raise) → Greater ≡ w
+        go Less h = absurd (omega (arith, h, l))
+        go Equal h = absurd (omega (arith, h, l))
+        go Greater h = refl
+
+pub best_reduced : (xs : List Offer) → reduce (lower rank by_rank) xs ≡ best_of xs
+best_reduced = reduced best_of (lower rank by_rank) (λ o. ap weighed (ap (λ t. cond t (o ∷ []) []) (eq-eqb o.raise o.raise refl)) ∙ weighed_one o) best_more refl
+
+-- ---- what is decided
+
+abbrev pub label_of : List Cluster → Offer → ℕ
+label_of cs o = label_at cs o.place
+
+-- as the rules say of the smallest that fits and of the smallest
+pub decided_home : (cs : List Cluster) (xs : List Offer) (room : Bool) (new : ℕ)
+    → taker (option_map (label_of cs) (smallest_of (fitting xs))) room (option_map (label_of cs) (smallest_of xs)) new ≡ home_of (decided room (weighed xs)) cs new
+decided_home cs xs room new = go (weighed xs) refl
+  where
+    settle : (f c r : Option Offer) → smallest_of (fitting xs) ≡ f → smallest_of xs ≡ c → weighed xs ≡ r → taker (option_map (label_of cs) f) room (option_map (label_of cs) c) new ≡ home_of (decided room r) cs new
+        → taker (option_map (label_of cs) (smallest_of (fitting xs))) room (option_map (label_of cs) (smallest_of xs)) new ≡ home_of (decided room (weighed xs)) cs new
+    settle f c r p q s h = ap (λ f. taker (option_map (label_of cs) f) room (option_map (label_of cs) (smallest_of xs)) new) p ∙ ap (λ c. taker (option_map (label_of cs) f) room (option_map (label_of cs) c) new) q ∙ h ∙ ap (λ r. home_of (decided room r) cs new) (sym s)
+
+    none : (room : Bool) → taker None room None new ≡ new
+    none true = refl
+    none false = refl
+
+    fit : (b : Offer) (c : Option Offer) (t : Bool) → b.fits ≡ t → t ≡ true → label_at cs b.place ≡ home_of (decided room (Some b)) cs new
+    fit b c true f k = ap (λ t. home_of (cond (t || not room) (Some b.place) None) cs new) (sym f)
+    fit b c false f k = let z : ◌≡◌ {A = ℕ} 0 1 = cc in absurd (omega (arith, z))
+
+    misfit : (b : Offer) (room : Bool) → b.fits ≡ false → taker None room (Some (label_at cs b.place)) new ≡ home_of (decided room (Some b)) cs new
+    misfit b true f = ap (λ t. home_of (cond (t || false) (Some b.place) None) cs new) (sym f)
+    misfit b false f = ap (λ t. home_of (cond (t || true) (Some b.place) None) cs new) (sym f)
+
+    go : (r : Option Offer) → weighed xs ≡ r → taker (option_map (label_of cs) (smallest_of (fitting xs))) room (option_map (label_of cs) (smallest_of xs)) new ≡ home_of (decided room (weighed xs)) cs new
+    go None e = empty (smallest_of (fitting xs)) refl e
+      where
+        empty : (f : Option Offer) → smallest_of (fitting xs) ≡ f → rather f (smallest_of xs) ≡ None → taker (option_map (label_of cs) (smallest_of (fitting xs))) room (option_map (label_of cs) (smallest_of xs)) new ≡ home_of (decided room (weighed xs)) cs new
+        empty (Some x) h k = let z : ◌≡◌ {A = ℕ} 0 1 = cc in absurd (omega (arith, z))
+        empty None h k = settle None None None h k e (none room)
+    go (Some b) e = found (best_is xs b e)
+      where
+        found : Best xs b → taker (option_map (label_of cs) (smallest_of (fitting xs))) room (option_map (label_of cs) (smallest_of xs)) new ≡ home_of (decided room (weighed xs)) cs new
+        found (inl h) = settle (Some b) (smallest_of xs) (Some b) h.0 refl e (fit b None b.fits refl h.1)
+        found (inr h) = settle None (Some b) (Some b) (ap smallest_of h.0) h.1 e (misfit b room h.2)
+
+pub decided_within : (n : ℕ) (room : Bool) (r : Option Offer) → ((b : Offer) → r ≡ Some b → b.place < n) → IfSome (decided room r) (λ i. i < n)
+decided_within n room None h = tt
+decided_within n room (Some b) h = go (b.fits || not room)
+  where
+    go : (t : Bool) → IfSome (cond t (Some b.place) None) (λ i. i < n)
+    go true = h b refl
+    go false = tt
+
+pub decided_room : (n beta : ℕ) (r : Option Offer) → (r ≡ None → n ≡ 0) → IfNone (decided (ltb n beta) r) ((n < beta) ⊎ (n ≡ 0))
+decided_room n beta None h = inr (h refl)
+decided_room n beta (Some b) h = go b.fits (ltb n beta) refl
+  where
+    go : (t room : Bool) → ltb n beta ≡ room → IfNone (cond (t || not room) (Some b.place) None) ((n < beta) ⊎ (n ≡ 0))
+    go true room e = tt
+    go false true e = inl (ltb-true n beta e)
+    go false false e = tt

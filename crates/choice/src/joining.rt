@@ -1,9 +1,9 @@
-ghost use Rattle.std.specs.Prelude.{◌≡◌, ◌<◌, ◌≤◌, ◌⊎◌, List, [], ◌∷◌, ◌++◌, length, None, MatchOption, ◌≢◌};
-ghost use Rattle.domain.specs.Boxes.{join_boxes, box_loss};
-ghost use Rattle.rules.specs.Choosing.{least};
+ghost use Rattle.std.specs.Prelude.{◌≡◌, ◌<◌, ◌≤◌, ◌⊎◌, length, None, MatchOption, ◌≢◌};
 ghost use Rattle.choice.specs.Choices.{Joins};
+ghost use Rattle.choice.specs.Offers.{rise_of};
 
-use domain::{Domain, PLACES, Range};
+use crate::losses::loss_joined;
+use domain::Domain;
 use pool::Cluster;
 
 // The place of a cluster that may join another, and by how much it then raises the loss.
@@ -13,31 +13,16 @@ struct Rise {
     raise: u32,
 }
 
-// The earlier of two equals stays.
-fn lower(best: Option<Rise>, rise: Rise) -> Option<Rise>
-    ensures { (xs : List Rise) → best ≡ least (λ x. x.raise) xs → result ≡ least (λ x. x.raise) (xs ++ rise ∷ []) }
-{
-    match best {
-        Some(first) => {
-            if first.raise <= rise.raise {
-                best
-            } else {
-                Some(rise)
-            }
+impl Rise {
+    fn of<D: Domain>(d: &D, own: &Cluster, place: usize, other: &Cluster) -> Rise
+        ensures { result ≡ rise_of (D.meaning d.now) own.now place other.now }
+    {
+        let loss = loss_joined(d, &own.bounds, |i| other.bounds[i]);
+        Rise {
+            place,
+            raise: loss.saturating_sub(own.loss),
         }
-        None => Some(rise),
     }
-}
-
-// The loss of the least box that contains both. No box is built.
-fn loss_joined<D: Domain>(d: &D, a: &[Range; PLACES], b: &[Range; PLACES]) -> u32
-    ensures { result ≡ box_loss (D.meaning d.now) (join_boxes (D.meaning d.now) a.now b.now) }
-{
-    let mut sum = 0;
-    for i in 0..d.width().min(PLACES) {
-        sum += d.loss(i, d.join(i, a[i], b[i]));
-    }
-    sum
 }
 
 // The place of the cluster whose joining raises the loss of the one at `at` least, the oldest of equals.
@@ -46,20 +31,12 @@ pub fn easiest<D: Domain>(d: &D, clusters: &[Cluster], at: usize) -> Option<usiz
     ensures outside { length clusters.now ≤ at → result ≡ None }
     ensures rule { Joins (D.meaning d.now) clusters.now at result }
 {
-    if at >= clusters.len() {
-        return None;
-    }
-    let own = &clusters[at];
-    let mut best = None;
-    for (place, other) in clusters.iter().enumerate() {
-        if place != at {
-            let loss = loss_joined(d, &own.bounds, &other.bounds);
-            let raise = loss.saturating_sub(own.loss);
-            best = lower(best, Rise { place, raise });
-        }
-    }
-    match best {
-        Some(rise) => Some(rise.place),
-        None => None,
-    }
+    let own = clusters.get(at)?;
+    clusters
+        .iter()
+        .enumerate()
+        .filter(|&(place, _)| place != at)
+        .map(|(place, other)| Rise::of(d, own, place, other))
+        .min_by_key(|x| x.raise)
+        .map(|x| x.place)
 }

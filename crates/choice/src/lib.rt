@@ -9,7 +9,8 @@ mod rows;
 pub use arrival::taker;
 pub use joining::easiest;
 pub use losses::loss_with;
-pub use rows::{find, larger};
+pub use pool::find;
+pub use rows::larger;
 
 #[cfg(test)]
 mod tests;

@@ -1,18 +1,25 @@
-ghost use Rattle.std.specs.Prelude.{◌≡◌};
+ghost use Rattle.std.specs.Prelude.{◌≡◌, ℕ, ◌<◌};
 ghost use Rattle.domain.specs.BoxLaws.{Allowed, Admitted};
-ghost use Rattle.domain.specs.Boxes.{point_box, join_boxes, box_loss};
-ghost use Rattle.choice.specs.Losses.{loss_beside, loss_read};
+ghost use Rattle.domain.specs.Boxes.{box_loss};
+ghost use Rattle.domain.specs.declared.range.Range as ranges;
+ghost use Rattle.choice.specs.Losses.{joined_losses, loss_beside, loss_read};
 
 use domain::{Domain, PLACES, Range, covers};
 use pool::Cluster;
 
-// The loss of the box, widened to cover the values. No box is built.
-fn loss_widened<D: Domain>(d: &D, bounds: &[Range; PLACES], values: &[u32; PLACES]) -> u32
-    ensures { result ≡ box_loss (D.meaning d.now) (join_boxes (D.meaning d.now) bounds.now (point_box (D.meaning d.now) values.now)) }
+// The loss of the box once each range is joined with the one that `other` gives for its place. No box is built.
+pub(crate) fn loss_joined<D: Domain, F: Fn(usize) -> Range>(
+    d: &D,
+    bounds: &[Range; PLACES],
+    other: F,
+) -> u32
+    requires { (i : ℕ) → i < 6 → F.pre other i }
+    ensures { (h : ℕ → ranges.Range) → ((i : ℕ) (r : ranges.Range) → F.post other i r → r ≡ h i) → result ≡ joined_losses (D.meaning d.now) bounds.now h }
 {
     let mut sum = 0;
+    // By index, since the domain is asked by the attribute's number.
     for i in 0..d.width().min(PLACES) {
-        sum += d.loss(i, d.join(i, bounds[i], Range::point(values[i])));
+        sum += d.loss(i, d.join(i, bounds[i], other(i)));
     }
     sum
 }
@@ -26,6 +33,6 @@ pub fn loss_with<D: Domain>(d: &D, cluster: &Cluster, values: &[u32; PLACES]) ->
     if covers(d, &cluster.bounds, values) {
         cluster.loss
     } else {
-        loss_widened(d, &cluster.bounds, values)
+        loss_joined(d, &cluster.bounds, |i| Range::point(values[i]))
     }
 }

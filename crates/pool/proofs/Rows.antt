@@ -1,9 +1,12 @@
 -- The table beside held records that change.
-use Rattle.std.proofs.Common.{◌≡◌, ℕ, zero, suc, ◌+◌, ◌-◌, ◌^◌, ◌<◌, ◌≤◌, min, Bool, true, false, cond, not, eqb, List, [], ◌∷◌, ◌++◌, map, length, get_or, set, filter, sym, refl, ap, ◌∙◌, subst, inl, inr, ⊎_elim, one-add, arith}
-use Rattle.std.specs.List.{remove, AllByRecursion}
+use Rattle.std.proofs.Common.{◌≡◌, ℕ, zero, suc, ◌+◌, ◌-◌, ◌^◌, ◌<◌, ◌≤◌, min, Bool, true, false, cond, not, eqb, List, [], ◌∷◌, ◌++◌, map, length, get_or, set, filter, sym, refl, ap, ◌∙◌, subst, inl, inr, ⊎_elim, arith, Option, Some, None, is_some, MatchOption, nat_lt}
+use Rattle.std.specs.List.{remove, position_or_len, AllByRecursion}
 use Rattle.std.proofs.lemmas.List.{map-append, get_or-map, length-map}
 use Rattle.std.proofs.ByRecursion.{All-map, all_kept_by}
-use Rattle.std.proofs.lemmas.Bool.{eq-eqb, ne_eqb, eqb-true, eqb-false, cases_eq, not-true, not_from_false}
+use Rattle.std.proofs.lemmas.Bool.{eq-eqb, ne_eqb, eqb-true, eqb-false, cases_eq, not-true, not_from_false, ltb-false}
+use Rattle.std.proofs.lemmas.List.Quantifiers.{position-Some}
+use Rattle.std.proofs.lemmas.List.Sums.{fails_before_first}
+use Rattle.std.proofs.lemmas.Option.{none-some}
 use Rattle.domain.specs.Meaning.{Meaning}
 use Rattle.domain.specs.Boxes.{point_box, box_loss}
 use Rattle.rules.specs.declared.Entry.{Entry}
@@ -19,7 +22,8 @@ use Rattle.rules.proofs.Around.{boxes_stand}
 use Rattle.rules.proofs.Opened.{ascending_same, is_open, ascending_kept, clusters_others, clusters_push_old, clusters_push_new, clusters_merged, members_others}
 use Rattle.pool.specs.declared.Cluster.{Cluster}
 use Rattle.pool.specs.Tables.{cluster_of, labels, label_at, table}
-use Rattle.pool.specs.Changes.{held_also, label_of, other_rows, opened, with_record, replaced, renewed, union, taken_over, place_of}
+use Rattle.pool.specs.Changes.{held_also, label_of, other_rows, opened, with_record, replaced, renewed, union, taken_over}
+use Rattle.pool.specs.Places.{place_of, Finds}
 use Rattle.pool.proofs.Scans.{size_push, size_le, members_joined, members_same, members_le}
 
 -- ---- lists
@@ -319,19 +323,43 @@ module _ (m : Meaning) (hs : List Held) (xs : List Cluster) (is : xs ≡ table m
 
 -- ---- the place of a label
 
-abbrev Found : ℕ → List Cluster → ℕ → Type 0
-Found c xs r = (r < length xs) × (label_at xs r ≡ c)
+listed_place : (xs : List ℕ) (x : ℕ) → In xs x → (i : ℕ) × (i < length xs) × (get_or xs i 0 ≡ x)
+listed_place [] x i = absurd i
+listed_place (y ∷ ys) x i = ⊎_elim {C = (i : ℕ) × (i < length (y ∷ ys)) × (get_or (y ∷ ys) i 0 ≡ x)}
+    (λ e. (0, omega arith, e))
+    (λ j. let r = listed_place ys x j in (suc r.0, omega (arith, r.1), r.2))
+    i
 
-pub place_found : (c : ℕ) (xs : List Cluster) → In (labels xs) c → Found c xs (place_of c xs)
-place_found c [] i = absurd i
-place_found c (x ∷ xs) i = go (eqb x.label c) refl (place_found c xs)
-  where
-    go : (b : Bool) → eqb x.label c ≡ b → (In (labels xs) c → Found c xs (place_of c xs)) → Found c (x ∷ xs) (cond (not b) (1 + place_of c xs) 0)
-    go true e ih = (omega arith, eqb-true _ _ e)
-    go false e ih =
-        let r = ih (⊎_elim (λ s. absurd (eqb-false _ _ e s)) (λ j. j) i) in
-        (omega (arith, r.0), rw one-add r.1)
+-- a row of no cluster
+abbrev pub blank : Cluster
+blank = record { label = 0; size = 0; loss = 0; bounds = [] }
 
--- what is found at the place of a label
-pub found_at : (c : ℕ) (xs : List Cluster) (r : ℕ) → r ≡ place_of c xs → In (labels xs) c → Found c xs r
-found_at c xs r e i = subst (Found c xs) (sym e) (place_found c xs i)
+module _ (c : ℕ) (xs : List Cluster) where
+  abbrev pub labelled : Cluster → Bool
+  labelled x = eqb x.label c
+
+  misses : (i : ℕ) → i < length xs → labelled (get_or xs i blank) ≡ false → label_at xs i ≡ c → ⊥
+  misses i l f e = eqb-false _ _ f (sym (get_or-map (λ (y : Cluster). y.label) xs i blank 0 l) ∙ e)
+
+  pub finds : (r : Option ℕ) → r ≡ place_of c xs → Finds xs c r
+  finds (Some i) e =
+      let f = position-Some labelled xs i blank (sym e) in
+      record {
+        within = f.0;
+        labelled = get_or-map (λ (y : Cluster). y.label) xs i blank 0 f.0 ∙ eqb-true _ _ f.1;
+        none_ahead = λ k l. misses k (omega (arith, l, f.0)) (f.2 k l);
+      }
+  finds None e = λ k l. misses k l (fails_before_first labelled xs k blank (omega (arith, l, none (nat_lt (position_or_len labelled xs) (length xs)) refl (sym e))))
+    where
+      none : (b : Bool) → nat_lt (position_or_len labelled xs) (length xs) ≡ b → cond b (Some (position_or_len labelled xs)) None ≡ None → length xs ≤ position_or_len labelled xs
+      none true t z = absurd (none-some _ (sym z))
+      none false t z = ltb-false _ _ t
+
+  -- a label of the table is found
+  pub found : (r : Option ℕ) → Finds xs c r → In (labels xs) c → MatchOption r ⊥ (λ i. (i < length xs) × (label_at xs i ≡ c))
+  found (Some i) f o = (f.within, f.labelled)
+  found None f o = let k = listed_place (labels xs) c o in f k.0 (omega (arith, k.1, length-map xs (λ (y : Cluster). y.label))) k.2
+
+  pub held_found : (m : Meaning) (hs : List Held) (h : Held) (r : Option ℕ) → Finds xs c r → xs ≡ table m hs → In hs h → h.label ≡ c → is_some r ≡ true
+  held_found m hs h (Some i) f t o e = refl
+  held_found m hs h None f t o e = absurd (found None f (subst (In (labels xs)) e (subst (λ cs. In cs h.label) (sym (ap labels t ∙ labels_table m hs)) ((clusters_law hs).listed h o))))

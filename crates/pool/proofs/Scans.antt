@@ -1,17 +1,19 @@
 -- Owners, members and boxes of held records that grow by one.
-use Rattle.std.proofs.Common.{◌≡◌, ℕ, ◌+◌, ◌<◌, ◌≤◌, Bool, true, false, cond, not, ◌&&◌, ◌||◌, eqb, List, [], ◌∷◌, ◌++◌, map, length, get_or, take, drop, fold, filter, sym, refl, ap, ◌∙◌, add-zero, arith}
-use Rattle.std.proofs.lemmas.List.{append_assoc, append-nil, map-append, length-append, take_more, nil_from_length, at_drop_more, take-append-drop}
+use Rattle.std.proofs.Common.{◌≡◌, ℕ, ◌+◌, ◌≤◌, Bool, true, false, cond, not, ◌&&◌, ◌||◌, eqb, ltb, List, [], ◌∷◌, ◌++◌, map, length, take, fold, filter, sym, refl, ap, ◌∙◌, Option, Some, None, unwrap_or, ⊎_elim, arith}
+use Rattle.std.specs.List.{list_any, enumerate_from}
+use Rattle.std.proofs.lemmas.List.{append_assoc, append-nil, map-append, length-append, take_all, take-append-le, length-take}
 use Rattle.std.proofs.lemmas.List.Elements.{filter-append}
-use Rattle.std.proofs.lemmas.Bool.{eq-eqb, ne_eqb, and_from, and_left, and_right}
-use Rattle.domain.specs.Meaning.{Meaning, places}
-use Rattle.domain.specs.Boxes.{point_box, join_boxes}
+use Rattle.std.proofs.lemmas.Bool.{eq-eqb, ne_eqb, lt-ltb, le-ltb, cases_lt}
+use Rattle.domain.specs.Meaning.{Meaning}
+use Rattle.domain.specs.Boxes.{point_box}
 use Rattle.rules.specs.declared.Entry.{Entry}
 use Rattle.rules.specs.declared.Held.{Held}
 use Rattle.rules.specs.Choosing.{different, listed}
-use Rattle.rules.specs.Clusters.{owner, owners, size, values, records, members, Box, widened, box_of}
+use Rattle.rules.specs.Clusters.{owner, owners, size, values, records, members, Box, no_box, widened, box_of}
+use Rattle.pool.specs.Tables as tables
 use Rattle.rules.proofs.Totals.{eqb_sym}
 use Rattle.rules.proofs.Numbers.{once_listed, times_different, different_once}
-use Rattle.rules.proofs.Around.{boxes_stand}
+use Rattle.rules.proofs.Choices.{pushed}
 
 -- ---- listed numbers
 
@@ -60,91 +62,78 @@ size_le es = go [] es (omega arith)
         let more = go (es ++ f ∷ []) fs (omega (arith, l, size_push es f, length-append es (f ∷ []), step (listed (owner f) (owners es)))) in
         rw append_assoc at more
 
--- more records have no fewer owners
-pub size_grows : (es fs : List Entry) → size es ≤ size (es ++ fs)
-size_grows es [] = omega (arith, ap size (append-nil es))
-size_grows es (f ∷ fs) = omega (arith, size_push es f, size_grows (es ++ f ∷ []) fs, ap size (append_assoc es (f ∷ []) fs))
-
 -- ---- looking for an owner
 
 -- one of the records is the owner's
-abbrev pub naming : ℕ → List Held → Bool
-naming w hs = listed w (map owner (records hs))
+pub any_named : (w : ℕ) (hs : List Held) → list_any (λ h. eqb (owner h.entry) w) hs ≡ listed w (owners (records hs))
+any_named w hs = go hs ∙ sym (listed_different w (map owner (records hs)))
+  where
+    go : (hs : List Held) → list_any (λ h. eqb (owner h.entry) w) hs ≡ listed w (map owner (records hs))
+    go [] = refl
+    go (h ∷ hs) = ap (λ b. eqb (owner h.entry) w || b) (go hs)
 
 -- one of the cluster's records is
-abbrev pub having : ℕ → ℕ → List Held → Bool
-having c w hs = listed w (map owner (members c hs))
-
-having_front : (c w : ℕ) (h : Held) (hs : List Held) → having c w (h ∷ hs) ≡ ((eqb h.label c && eqb (owner h.entry) w) || having c w hs)
-having_front c w h hs = go (eqb h.label c)
+pub any_member : (c w : ℕ) (hs : List Held) → list_any (λ h. eqb h.label c && eqb (owner h.entry) w) hs ≡ listed w (owners (members c hs))
+any_member c w hs = go hs ∙ any_named w (filter (λ h. eqb h.label c) hs)
   where
-    go : (b : Bool) → listed w (map owner (records (cond b (h ∷ filter (λ h. eqb h.label c) hs) (filter (λ h. eqb h.label c) hs)))) ≡ ((b && eqb (owner h.entry) w) || having c w hs)
-    go true = refl
-    go false = refl
+    front : (b t l : Bool) (h : Held) (ks : List Held) → l ≡ list_any (λ h. eqb (owner h.entry) w) ks → (b && eqb (owner h.entry) w || l) ≡ list_any (λ h. eqb (owner h.entry) w) (cond b (h ∷ ks) ks)
+    front true t l h ks e = ap (λ b. eqb (owner h.entry) w || b) e
+    front false t l h ks e = e
 
-module _ (w : ℕ) (hs : List Held) (i : ℕ) (d : Held) (lt : i < length hs) where
-  pub naming_here : naming w (drop i hs) ≡ naming w hs → owner (get_or hs i d).entry ≡ w → naming w hs ≡ true
-  naming_here inv e = sym inv ∙ at_drop_more (naming w) hs i d lt ∙ ap (λ t. t || naming w (drop (i + 1) hs)) (eq-eqb _ _ e)
-
-  pub naming_more : naming w (drop i hs) ≡ naming w hs → (owner (get_or hs i d).entry ≡ w → ⊥) → naming w (drop (i + 1) hs) ≡ naming w hs
-  naming_more inv n = ap (λ t. t || naming w (drop (i + 1) hs)) (sym (ne_eqb _ _ n)) ∙ sym (at_drop_more (naming w) hs i d lt) ∙ inv
-
-  module _ (c : ℕ) where
-    having_step : having c w (drop i hs) ≡ having c w hs → having c w hs ≡ ((eqb (get_or hs i d).label c && eqb (owner (get_or hs i d).entry) w) || having c w (drop (i + 1) hs))
-    having_step inv = sym inv ∙ at_drop_more (having c w) hs i d lt ∙ having_front c w (get_or hs i d) (drop (i + 1) hs)
-
-    pub having_here : having c w (drop i hs) ≡ having c w hs → (get_or hs i d).label ≡ c → owner (get_or hs i d).entry ≡ w → having c w hs ≡ true
-    having_here inv l e = having_step inv ∙ ap (λ t. t || having c w (drop (i + 1) hs)) (and_from _ _ (eq-eqb _ _ l) (eq-eqb _ _ e))
-
-    pub having_other_label : having c w (drop i hs) ≡ having c w hs → ((get_or hs i d).label ≡ c → ⊥) → having c w (drop (i + 1) hs) ≡ having c w hs
-    having_other_label inv n = sym (having_step inv ∙ ap (λ t. t || having c w (drop (i + 1) hs)) (and_left _ _ (ne_eqb _ _ n)))
-
-    pub having_other_owner : having c w (drop i hs) ≡ having c w hs → (owner (get_or hs i d).entry ≡ w → ⊥) → having c w (drop (i + 1) hs) ≡ having c w hs
-    having_other_owner inv n = sym (having_step inv ∙ ap (λ t. t || having c w (drop (i + 1) hs)) (and_right (eqb (get_or hs i d).label c) _ (ne_eqb _ _ n)))
+    go : (hs : List Held) → list_any (λ h. eqb h.label c && eqb (owner h.entry) w) hs ≡ list_any (λ h. eqb (owner h.entry) w) (filter (λ h. eqb h.label c) hs)
+    go [] = refl
+    go (h ∷ hs) = front (eqb h.label c) true _ h _ (go hs)
 
 -- ---- one record more
 
-records_push : (hs : List Held) (h : Held) → records (hs ++ h ∷ []) ≡ records hs ++ h.entry ∷ []
+pub records_push : (hs : List Held) (h : Held) → records (hs ++ h ∷ []) ≡ records hs ++ h.entry ∷ []
 records_push hs h = map-append (λ (h : Held). h.entry) hs (h ∷ [])
 
-members_push : (c : ℕ) (hs : List Held) (h : Held) (b : Bool) → eqb h.label c ≡ b → members c (hs ++ h ∷ []) ≡ members c hs ++ cond b (h.entry ∷ []) []
-members_push c hs h b e = ap records (filter-append (λ h. eqb h.label c) hs (h ∷ [])) ∙ map-append (λ (h : Held). h.entry) (filter (λ h. eqb h.label c) hs) (filter (λ h. eqb h.label c) (h ∷ [])) ∙ ap (λ es. members c hs ++ es) (last b e)
-  where
-    last : (b : Bool) → eqb h.label c ≡ b → records (filter (λ h. eqb h.label c) (h ∷ [])) ≡ cond b (h.entry ∷ []) []
-    last true e = ap (λ t. records (cond t (h ∷ []) [])) e
-    last false e = ap (λ t. records (cond t (h ∷ []) [])) e
+pub members_push : (c : ℕ) (hs : List Held) (h : Held) → members c (hs ++ h ∷ []) ≡ members c hs ++ cond (eqb h.label c) (h.entry ∷ []) []
+members_push c hs h = pushed c hs h (eqb h.label c) refl
 
 pub members_joined : (c : ℕ) (hs : List Held) (h : Held) → h.label ≡ c → members c (hs ++ h ∷ []) ≡ members c hs ++ h.entry ∷ []
-members_joined c hs h e = members_push c hs h true (eq-eqb _ _ e)
+members_joined c hs h e = pushed c hs h true (eq-eqb _ _ e)
 
 pub members_same : (c : ℕ) (hs : List Held) (h : Held) → (h.label ≡ c → ⊥) → members c (hs ++ h ∷ []) ≡ members c hs
-members_same c hs h n = members_push c hs h false (ne_eqb _ _ n) ∙ append-nil (members c hs)
+members_same c hs h n = pushed c hs h false (ne_eqb _ _ n) ∙ append-nil (members c hs)
 
-module _ (hs : List Held) (i : ℕ) (d : Held) (lt : i < length hs) where
-  records_more : records (take (i + 1) hs) ≡ records (take i hs) ++ (get_or hs i d).entry ∷ []
-  records_more = ap records (take_more hs i d lt) ∙ records_push (take i hs) (get_or hs i d)
+-- an owner counts at his earliest record
+module _ (chosen : List Held → List Entry) (q : Held → Bool) (push : (hs : List Held) (h : Held) → chosen (hs ++ h ∷ []) ≡ chosen hs ++ cond (q h) (h.entry ∷ []) []) where
+  abbrev pub is_earliest : List Held → ℕ × Held → Bool
+  is_earliest hs p = q p.1 && not (listed (owner p.1.entry) (owners (chosen (take p.0 hs))))
 
-  pub name_new : (n : ℕ) → n ≡ size (records (take i hs)) → listed (owner (get_or hs i d).entry) (owners (records (take i hs))) ≡ false → n + 1 ≡ size (records (take (i + 1) hs))
-  name_new n inv f = ap (λ k. k + 1) inv ∙ ap (λ t. size (records (take i hs)) + cond t 0 1) (sym f) ∙ sym (size_push (records (take i hs)) (get_or hs i d).entry) ∙ ap size (sym records_more)
+  count_from : (all pre hs : List Held) (n : ℕ) → pre ++ hs ≡ all → length pre ≡ n → size (chosen pre) + length (filter (is_earliest all) (enumerate_from n hs)) ≡ size (chosen all)
+  count_from all pre [] n e l = omega (arith, ap (λ ks. size (chosen ks)) (sym (append-nil pre) ∙ e))
+  count_from all pre (h ∷ hs) n e l = go (q h) (listed (owner h.entry) (owners (chosen pre))) refl refl (count_from all (pre ++ h ∷ []) hs (n + 1) (append_assoc pre (h ∷ []) hs ∙ e) (length-append pre (h ∷ []) ∙ ap (λ k. k + 1) l))
+    where
+      ahead : take n all ≡ pre
+      ahead = ap (take n) (sym e) ∙ take-append-le n pre (h ∷ hs) (omega (arith, l)) ∙ take_all n pre (omega (arith, l))
 
-  pub name_known : (n : ℕ) → n ≡ size (records (take i hs)) → listed (owner (get_or hs i d).entry) (owners (records (take i hs))) ≡ true → n ≡ size (records (take (i + 1) hs))
-  name_known n inv f = inv ∙ sym (add-zero _) ∙ ap (λ t. size (records (take i hs)) + cond t 0 1) (sym f) ∙ sym (size_push (records (take i hs)) (get_or hs i d).entry) ∙ ap size (sym records_more)
+      front : (s : Bool) → is_earliest all (n, h) ≡ s → length (filter (is_earliest all) (enumerate_from n (h ∷ hs))) ≡ cond s 1 0 + length (filter (is_earliest all) (enumerate_from (n + 1) hs))
+      front true f = omega (arith, ap (λ t. length (cond t ((n, h) ∷ filter (is_earliest all) (enumerate_from (n + 1) hs)) (filter (is_earliest all) (enumerate_from (n + 1) hs)))) f)
+      front false f = omega (arith, ap (λ t. length (cond t ((n, h) ∷ filter (is_earliest all) (enumerate_from (n + 1) hs)) (filter (is_earliest all) (enumerate_from (n + 1) hs)))) f)
 
-  pub members_more : (c : ℕ) → (get_or hs i d).label ≡ c → members c (take (i + 1) hs) ≡ members c (take i hs) ++ (get_or hs i d).entry ∷ []
-  members_more c e = ap (members c) (take_more hs i d lt) ∙ members_joined c (take i hs) (get_or hs i d) e
+      test : (b t : Bool) → q h ≡ b → listed (owner h.entry) (owners (chosen pre)) ≡ t → is_earliest all (n, h) ≡ (b && not t)
+      test b t f k = ap (λ ks. q h && not (listed (owner h.entry) (owners (chosen ks)))) ahead ∙ ap (λ c. c && not (listed (owner h.entry) (owners (chosen pre)))) f ∙ ap (λ c. b && not c) k
 
-  pub members_past : (c : ℕ) → ((get_or hs i d).label ≡ c → ⊥) → members c (take (i + 1) hs) ≡ members c (take i hs)
-  members_past c n = ap (members c) (take_more hs i d lt) ∙ members_same c (take i hs) (get_or hs i d) n
+      grown : (b t : Bool) → q h ≡ b → listed (owner h.entry) (owners (chosen pre)) ≡ t → size (chosen (pre ++ h ∷ [])) ≡ size (chosen pre) + cond (b && not t) 1 0
+      grown true true f k = omega (arith, ap size (push pre h ∙ ap (λ c. chosen pre ++ cond c (h.entry ∷ []) []) f), size_push (chosen pre) h.entry, ap {B = ℕ} (λ c. cond c 0 1) k)
+      grown true false f k = omega (arith, ap size (push pre h ∙ ap (λ c. chosen pre ++ cond c (h.entry ∷ []) []) f), size_push (chosen pre) h.entry, ap {B = ℕ} (λ c. cond c 0 1) k)
+      grown false t f k = omega (arith, ap size (push pre h ∙ ap (λ c. chosen pre ++ cond c (h.entry ∷ []) []) f ∙ append-nil (chosen pre)))
 
-  -- an owner counts at his earliest record
-  pub count_new : (c n : ℕ) → n ≡ size (members c (take i hs)) → (get_or hs i d).label ≡ c → listed (owner (get_or hs i d).entry) (owners (members c (take i hs))) ≡ false → n + 1 ≡ size (members c (take (i + 1) hs))
-  count_new c n inv e f = ap (λ k. k + 1) inv ∙ ap (λ t. size (members c (take i hs)) + cond t 0 1) (sym f) ∙ sym (size_push (members c (take i hs)) (get_or hs i d).entry) ∙ ap size (sym (members_more c e))
+      go : (b t : Bool) → q h ≡ b → listed (owner h.entry) (owners (chosen pre)) ≡ t → size (chosen (pre ++ h ∷ [])) + length (filter (is_earliest all) (enumerate_from (n + 1) hs)) ≡ size (chosen all) → size (chosen pre) + length (filter (is_earliest all) (enumerate_from n (h ∷ hs))) ≡ size (chosen all)
+      go b t f k ih = omega (arith, ih, grown b t f k, front (b && not t) (test b t f k))
 
-  pub count_known : (c n : ℕ) → n ≡ size (members c (take i hs)) → (get_or hs i d).label ≡ c → listed (owner (get_or hs i d).entry) (owners (members c (take i hs))) ≡ true → n ≡ size (members c (take (i + 1) hs))
-  count_known c n inv e f = inv ∙ sym (add-zero _) ∙ ap (λ t. size (members c (take i hs)) + cond t 0 1) (sym f) ∙ sym (size_push (members c (take i hs)) (get_or hs i d).entry) ∙ ap size (sym (members_more c e))
+  pub count_earliest : (hs : List Held) → chosen [] ≡ [] → length (filter (is_earliest hs) (enumerate_from 0 hs)) ≡ size (chosen hs)
+  count_earliest hs none = omega (arith, count_from hs [] hs 0 refl refl, ap size none)
 
-  pub count_other : (c n : ℕ) → n ≡ size (members c (take i hs)) → ((get_or hs i d).label ≡ c → ⊥) → n ≡ size (members c (take (i + 1) hs))
-  count_other c n inv e = inv ∙ ap size (sym (members_past c e))
+-- of all records, and of a cluster's
+pub count_names : (hs : List Held) → length (filter (is_earliest records (λ _. true) records_push hs) (enumerate_from 0 hs)) ≡ size (records hs)
+count_names hs = count_earliest records (λ _. true) records_push hs refl
+
+pub count_members : (c : ℕ) (hs : List Held) → length (filter (is_earliest (members c) (λ h. eqb h.label c) (members_push c) hs) (enumerate_from 0 hs)) ≡ size (members c hs)
+count_members c hs = count_earliest (members c) (λ h. eqb h.label c) (members_push c) hs refl
 
 pub members_le : (c : ℕ) (hs : List Held) → length (members c hs) ≤ length hs
 members_le c [] = omega arith
@@ -154,30 +143,26 @@ members_le c (h ∷ hs) = go (eqb h.label c) (members_le c hs)
     go true l = omega (arith, l)
     go false l = omega (arith, l)
 
+-- fewer than k stand at the front of a list just where it has fewer
+pub few_front : {X : Type 0} (k : ℕ) (xs : List X) → ltb (length (take k xs)) k ≡ ltb (length xs) k
+few_front k xs = ⊎_elim {C = ltb (length (take k xs)) k ≡ ltb (length xs) k}
+    (λ l. lt-ltb _ _ (omega (arith, l, length-take k xs)) ∙ sym (lt-ltb _ _ l))
+    (λ l. le-ltb _ _ (omega (arith, l, length-take k xs)) ∙ sym (le-ltb _ _ l))
+    (cases_lt (length xs) k)
+
 -- ---- boxes
 
--- the box of one record
-pub box_first : (m : Meaning) (es : List Entry) (e : Entry) → length es ≡ 0 → point_box m (values e) ≡ box_of m (es ++ e ∷ [])
-box_first m es e l = ap (λ t. box_of m (t ++ e ∷ [])) (sym (nil_from_length es l))
+-- widened record by record
+abbrev pub widened_by : Meaning → Option Box → Held → Option Box
+widened_by m b h = Some (tables.widened m b (values h.entry))
 
-pub box_next : (m : Meaning) (b : Box) (es : List Entry) (e : Entry) → b ≡ box_of m es → (length es ≡ 0 → ⊥) → widened m b e ≡ box_of m (es ++ e ∷ [])
-box_next m b es e is n = ap (λ t. widened m t e) is ∙ sym (boxes_stand.wider m es e (omega (arith, n)))
-
-pub grown_some : (es : List Entry) (e : Entry) → eqb (length (es ++ e ∷ [])) 0 ≡ false
-grown_some es e = ne_eqb _ _ (λ z. omega (arith, z, length-append es (e ∷ [])))
-
--- a box has six ranges
-pub box_six : (m : Meaning) (es : List Entry) → length (box_of m es) ≡ places
-unfolding point_box join_boxes
-box_six m [] = refl
-box_six m (e ∷ es) = go (point_box m (values e)) es refl
+pub box_folded : (m : Meaning) (c : ℕ) (hs : List Held) → unwrap_or (fold (widened_by m) None (filter (λ h. eqb h.label c) hs)) no_box ≡ box_of m (members c hs)
+box_folded m c hs = go (filter (λ h. eqb h.label c) hs)
   where
-    go : (b : Box) (es : List Entry) → length b ≡ places → length (fold (widened m) b es) ≡ places
-    go b [] l = l
-    go b (e ∷ es) l = go (widened m b e) es refl
+    rest : (b : Box) (hs : List Held) → unwrap_or (fold (widened_by m) (Some b) hs) no_box ≡ fold (widened m) b (records hs)
+    rest b [] = refl
+    rest b (h ∷ hs) = rest (widened m b h.entry) hs
 
--- the first of the records have no more owners than all
-pub names_within : (hs : List Held) (i : ℕ) → size (records (take i hs)) ≤ size (records hs)
-names_within hs i =
-    let e = map-append (λ (h : Held). h.entry) (take i hs) (drop i hs) in
-    omega (arith, size_grows (records (take i hs)) (records (drop i hs)), ap size (sym e ∙ ap records (take-append-drop i hs)))
+    go : (hs : List Held) → unwrap_or (fold (widened_by m) None hs) no_box ≡ box_of m (records hs)
+    go [] = refl
+    go (h ∷ hs) = rest (point_box m (values h.entry)) hs

@@ -1,6 +1,5 @@
 -- What the changes of a pool make of its held records and of its table. Assumes nothing.
 use Rattle.std.specs.Prelude.{◌≡◌, ℕ, ◌+◌, ◌-◌, ◌^◌, min, Bool, cond, not, ◌&&◌, List, [], ◌∷◌, ◌++◌, map, vec_len, vec_capacity, filter, ◌==◌, nat_lt, slice_index}
-use Rattle.std.specs.List.{prefix_len}
 use Rattle.domain.specs.Meaning.{Meaning}
 use Rattle.domain.specs.Boxes.{point_box, join_boxes, box_loss}
 use Rattle.rules.specs.declared.Entry.{Entry}
@@ -50,10 +49,6 @@ can_join p i = is_place p i && can_hold p
 
 abbrev pub are_two : Pool → ℕ → ℕ → Bool
 are_two p i j = is_place p i && (is_place p j && not (i == j))
-
--- the place of the row of c, or the table's length if it has none
-abbrev pub place_of : ℕ → List Cluster → ℕ
-place_of c xs = prefix_len (λ x. not (x.label == c)) xs
 
 -- the rows of other clusters
 abbrev pub other_rows : ℕ → List Cluster → List Cluster

@@ -1,8 +1,9 @@
 -- The table of open clusters beside the held records. Assumes nothing.
-use Rattle.std.specs.Prelude.{◌≡◌, ℕ, ◌≤◌, List, map, vec_items, vec_capacity, slice_index}
+use Rattle.std.specs.Prelude.{◌≡◌, ℕ, ◌≤◌, List, map, Some, None, Option, vec_items, vec_capacity, slice_index}
 use Rattle.domain.specs.Meaning.{Meaning}
+use Rattle.domain.specs.Boxes.{point_box, join_boxes}
 use Rattle.rules.specs.declared.Held.{Held}
-use Rattle.rules.specs.Clusters.{size, members, clusters, box_of, cost}
+use Rattle.rules.specs.Clusters.{Box, size, members, clusters, box_of, cost}
 use Rattle.pool.specs.declared.Cluster.{Cluster}
 use Rattle.pool.specs.declared.Pool.{Pool}
 
@@ -16,6 +17,11 @@ rows_of p = vec_items p.clusters
 -- what the table has of cluster c: size, loss and box of its members
 abbrev pub cluster_of : Meaning → List Held → ℕ → Cluster
 cluster_of m hs c = record { label = c; size = size (members c hs); loss = cost m (members c hs); bounds = box_of m (members c hs) }
+
+-- a box, if there is one, widened to cover the values of one record
+abbrev pub widened : Meaning → Option Box → List ℕ → Box
+widened m None vs = point_box m vs
+widened m (Some b) vs = join_boxes m b (point_box m vs)
 
 -- the labels of a table, and the one at place i
 abbrev pub labels : List Cluster → List ℕ

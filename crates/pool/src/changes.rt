@@ -1,17 +1,18 @@
 // What changes a pool. Each change keeps the table in step with the held records, and none but `reserve` asks for memory.
-ghost use Rattle.std.specs.Prelude.{◌≡◌, ◌<◌, not, [], ◌∷◌, ◌++◌, IfOk, if◌then◌else◌, vec_len, vec_capacity, nat_lt, slice_index_or, slice_set};
+ghost use Rattle.std.specs.Prelude.{◌≡◌, ◌<◌, not, [], ◌∷◌, ◌++◌, IfOk, if◌then◌else◌, vec_len, vec_capacity, nat_lt, slice_index_or, slice_set, MatchOption};
 ghost use Rattle.std.specs.List.{remove, AllByRecursion};
 ghost use Rattle.domain.specs.Meaning.{Meaning};
 ghost use Rattle.rules.specs.Around.{Fit};
 ghost use Rattle.rules.specs.Choosing.{In, listed};
 ghost use Rattle.rules.specs.Clusters as rules;
 ghost use Rattle.rules.specs.Turn.{merged};
-ghost use Rattle.pool.specs.Changes.{Empty, SameMemory, can_open, can_join, held_also, label_of, are_two, place_of, other_rows, opened, with_record, renewed, taken_over};
+ghost use Rattle.pool.specs.Changes.{Empty, SameMemory, can_open, can_join, held_also, label_of, are_two, other_rows, opened, with_record, renewed, taken_over};
+ghost use Rattle.pool.specs.Places.{place_of};
 ghost use Rattle.pool.specs.Tables.{held_of, rows_of, labels, label_at, Faithful};
 
-use crate::edits::{drop_members, drop_row, place_of, put_row, relabel};
+use crate::edits::{put_row, relabel};
 use crate::members::{cluster_of, count_owners, has_owner, names_fewer};
-use crate::{Cluster, Pool};
+use crate::{Cluster, Pool, find};
 use domain::{Domain, PLACES, box_loss, join_boxes, point_box, widen};
 use rules::{Entry, Held};
 use std::alloc::{AllocError, Global};
@@ -21,27 +22,16 @@ const MOST_HELD: usize = 256;
 
 const MOST_OPEN: usize = 64;
 
-// The cluster takes one record more: its values, and whether the cluster did not name its owner.
-fn take_record<D: Domain>(d: &D, cluster: &mut Cluster, values: &[u32; PLACES], new_owner: bool)
-    ensures { cluster.new ≡ with_record (D.meaning d.now) values.now new_owner cluster.old }
-{
-    widen(d, &mut cluster.bounds, values);
-    cluster.loss = box_loss(d, &cluster.bounds);
-    if new_owner {
-        cluster.size = cluster.size.saturating_add(1);
-    }
-}
-
-// The row of a cluster is made again from the members that it has, and goes if it has none.
-fn renew<D: Domain>(d: &D, held: &[Held], clusters: &mut Vec<Cluster>, label: u32)
-    ensures items { clusters.new.items ≡ renewed (D.meaning d.now) held.now label clusters.old.items }
-    ensures memory { vec_capacity clusters.new ≡ vec_capacity clusters.old }
-{
-    let row = cluster_of(d, held, label);
-    if row.size == 0 {
-        drop_row(clusters, label);
-    } else {
-        put_row(clusters, row);
+impl Cluster {
+    // One record more: its values, and whether the cluster did not name its owner.
+    fn take_record<D: Domain>(&mut self, d: &D, values: &[u32; PLACES], new_owner: bool)
+        ensures { self.new ≡ with_record (D.meaning d.now) values.now new_owner self.old }
+    {
+        widen(d, &mut self.bounds, values);
+        self.loss = box_loss(d, &self.bounds);
+        if new_owner {
+            self.size = self.size.saturating_add(1);
+        }
     }
 }
 
@@ -62,12 +52,12 @@ impl Pool {
         names_fewer(self.held.as_slice(), k)
     }
 
-    // The place of the cluster's row in the table, or the table's length if it has none.
-    pub fn place_of(&self, label: u32) -> usize
+    // The place of the cluster's row in the table.
+    pub fn place_of(&self, label: u32) -> Option<usize>
         ensures value { result ≡ place_of label (rows_of self.now) }
-        ensures found { In (labels (rows_of self.now)) label → (result < vec_len self.now.clusters) × (label_at (rows_of self.now) result ≡ label) }
+        ensures found { In (labels (rows_of self.now)) label → MatchOption result ⊥ (λ i. (i < vec_len self.now.clusters) × (label_at (rows_of self.now) i ≡ label)) }
     {
-        place_of(self.clusters.as_slice(), label)
+        find(self.clusters.as_slice(), label)
     }
 
     // The record opens a cluster, whose label is its position. Where there is no memory for both, nothing changes.
@@ -102,11 +92,13 @@ impl Pool {
         ensures faithful { Faithful (D.meaning d.now) self.old → Faithful (D.meaning d.now) self.new }
         ensures memory { SameMemory self.old self.new }
     {
-        if at < self.clusters.len() && self.held.len() < self.held.capacity() {
-            let label = self.clusters[at].label;
-            let new_owner = !has_owner(self.held.as_slice(), label, entry.fed.owner);
-            take_record(d, &mut self.clusters[at], &entry.fed.values, new_owner);
-            self.held.push_reserved(Held { entry, label });
+        if self.held.len() < self.held.capacity() {
+            if let Some(cluster) = self.clusters.get_mut(at) {
+                let label = cluster.label;
+                let new_owner = !has_owner(self.held.as_slice(), label, entry.fed.owner);
+                cluster.take_record(d, &entry.fed.values, new_owner);
+                self.held.push_reserved(Held { entry, label });
+            }
         }
     }
 
@@ -120,7 +112,21 @@ impl Pool {
     {
         if at < self.held.len() {
             let gone = self.held.remove(at);
-            renew(d, self.held.as_slice(), &mut self.clusters, gone.label);
+            self.renew(d, gone.label);
+        }
+    }
+
+    // The row of a cluster is made again from the members that it has, and goes if it has none.
+    fn renew<D: Domain>(&mut self, d: &D, label: u32)
+        ensures held { self.new.held ≡ self.old.held }
+        ensures clusters { rows_of self.new ≡ renewed (D.meaning d.now) (held_of self.old) label (rows_of self.old) }
+        ensures memory { SameMemory self.old self.new }
+    {
+        let row = cluster_of(d, self.held.as_slice(), label);
+        if row.size == 0 {
+            self.clusters.retain(|x| x.label != label);
+        } else {
+            put_row(&mut self.clusters, row);
         }
     }
 
@@ -131,8 +137,8 @@ impl Pool {
         ensures faithful { (m : Meaning) → Faithful m self.old → Faithful m self.new }
         ensures memory { SameMemory self.old self.new }
     {
-        drop_members(&mut self.held, label);
-        drop_row(&mut self.clusters, label);
+        self.held.retain(|h| h.label != label);
+        self.clusters.retain(|x| x.label != label);
     }
 
     // The cluster at place `at` of the table takes over the one at place `other`, which closes. Where these are not two
@@ -144,9 +150,10 @@ impl Pool {
         ensures faithful { AllByRecursion (λ h. Fit (D.meaning d.now) h.entry) (held_of self.old) → Faithful (D.meaning d.now) self.old → Faithful (D.meaning d.now) self.new }
         ensures memory { SameMemory self.old self.new }
     {
-        if at < self.clusters.len() && other < self.clusters.len() && at != other {
-            let taker = self.clusters[at];
-            let closing = self.clusters[other];
+        if at == other {
+            return;
+        }
+        if let (Some(&taker), Some(&closing)) = (self.clusters.get(at), self.clusters.get(other)) {
             let bounds = join_boxes(d, &taker.bounds, &closing.bounds);
             relabel(&mut self.held, taker.label, closing.label);
             let row = Cluster {
@@ -156,7 +163,7 @@ impl Pool {
                 bounds,
             };
             put_row(&mut self.clusters, row);
-            drop_row(&mut self.clusters, closing.label);
+            self.clusters.retain(|x| x.label != closing.label);
         }
     }
 }

@@ -7,6 +7,9 @@ use rules::Held;
 mod changes;
 mod edits;
 mod members;
+mod places;
+
+pub use places::find;
 
 // An open cluster: its label, and of its members how many owners they have, their least box and its loss.
 #[derive(Clone, Copy, Debug)]

@@ -59,7 +59,7 @@ fn the_last_record_closes_its_cluster(rt: HostRuntime) -> Result<(), Fail> {
     let d = Interval::up_to(10);
     let mut pool = two_clusters(rt.alloc(), &d)?;
     pool.leave(&d, 3);
-    assert_eq!(rt; pool.place_of(4), pool.clusters.len());
+    assert_eq!(rt; pool.place_of(4), None);
     pool.leave(&d, 0);
     assert_eq!(rt; row(&pool, 0), (1, 2, 3000));
     Ok(())

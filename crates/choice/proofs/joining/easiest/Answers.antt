@@ -1,49 +1,36 @@
-use Rattle.std.proofs.Common.{◌≡◌, ◌-◌, [], ◌∷◌, ◌++◌, length, sym, refl, ap, ◌∙◌, inl, arith}
+use Rattle.std.proofs.Common.{◌≡◌, ℕ, List, Option, MatchOption, ◌⊎◌, ◌<◌, ◌≤◌, None, rules, tests, eqb, not, length, map, filter, sym, refl, ap, ◌∙◌, arith, subst}
 use Rattle.std.specs.Option.{option_map}
+use Rattle.std.specs.Ordering.{nat_cmp}
+use Rattle.std.specs.List.{enumerate_from}
+use Rattle.std.proofs.lemmas.Iterator.{YieldsList-from_slice, YieldsList-from_map}
+use Rattle.std.proofs.lemmas.Iterator.Consumers.{YieldsList-at, YieldsList-from_enumerate, YieldsList-from_filter}
 use Rattle.rules.specs.Choosing.{least}
-use Rattle.choice.proofs.Firsts.{least_tells, least_none}
+use Rattle.pool.specs.declared.Cluster.{Cluster}
+use Rattle.pool.specs.Tables.{label_at}
+use Rattle.choice.specs.declared.joining.Rise.{Rise}
+use Rattle.choice.specs.Offers.{rise_of}
 use Rattle.choice.proofs.Labels.{row}
-use Rattle.choice.proofs.Rises.{rises, label_of, rises_same, rises_more, rises_within, rises_none, easiest_is}
-use Rattle.choice.proofs.joining.easiest.Goals.{then-place-at, else-place-at}
+use Rattle.choice.proofs.Lowest.{min_from_chain, least_reduced}
+use Rattle.choice.proofs.Rises.{rises, rises_by_place, other_is, easiest_is}
 use Rattle.choice.proofs.joining.easiest.Goals as goal
 
-pub loop-place-preserved : goal.loop-place-preserved
-loop-place-preserved g c =
+pub returns : goal.returns
+returns g c =
     let m = g.D.Domain.meaning c.args.d.now in
     let cs = c.args.clusters.now in
     let at = c.args.at in
-    let n = c.loop-place.place in
-    elim c.if-place-at.branch [
-      | then-place-at w ↦
-          w.best-is
-          ∙ w.lower-best.ensures (rises m cs at n) c.loop-place.invariant
-          ∙ ap (λ k. least (λ x. x.raise) (rises m cs at n ++ record { place = n; raise = k } ∷ [])) (w.saturating_sub-raise.ensures ∙ ap (λ k. k - (row cs at).loss) w.loss_joined-loss.ensures)
-          ∙ ap (least (λ x. x.raise)) (sym (rises_more m cs at n w.if-place-at.true))
-      | else-place-at w ↦ w.best-is ∙ c.loop-place.invariant ∙ ap (least (λ x. x.raise)) (sym (rises_same m cs at n w.if-place-at.false))
-    ]
-
-pub returns-in-Some : goal.returns-in-Some
-returns-in-Some g c =
-    let m = g.D.Domain.meaning c.args.d.now in
-    let cs = c.args.clusters.now in
-    let at = c.args.at in
-    let end : c.loop-place.place ≡ length cs = omega arith in
-    let all : c.loop-place.best ≡ least (λ x. x.raise) (rises m cs at (length cs)) = c.loop-place.invariant ∙ ap (λ n. least (λ x. x.raise) (rises m cs at n)) end in
+    let own = c.in_ok-own.own.now in
+    let found = c.in_ok-own.ensures.lookup.3 in
+    let best = c.min_by_key.result in
+    let place : c.map-2.result ≡ option_map (λ (x : Rise). x.place) best = search rules in
+    let all : List (ℕ × Cluster) = filter (λ (p : ℕ × Cluster). not (eqb p.0 at)) (enumerate_from 0 cs) in
+    let is : best ≡ least (λ x. x.raise) (rises m cs at (length cs)) =
+    min_from_chain (λ (x : Rise). x.raise) nat_cmp _ (λ x k q h. search (rules, tests)) _ c.min_by_key.ensures.ran
+    (YieldsList-from_map _ (λ (p : ℕ × Cluster). rise_of m own p.0 p.1) (YieldsList-at c.map.ensures.source (YieldsList-from_filter _ (λ (p : ℕ × Cluster). not (eqb p.0 at)) (YieldsList-at c.filter.ensures.source (YieldsList-from_enumerate (YieldsList-from_slice cs cc) cc)) c.filter.ensures.closure (λ x r q k. search (rules, tests)))) c.map.ensures.closure (λ x r q k. search (rules, tests)))
+    ∙ least_reduced (λ (x : Rise). x.raise) _
+    ∙ ap (least (λ x. x.raise)) (ap (λ o. map (λ (p : ℕ × Cluster). rise_of m o p.0 p.1) all) (found.1 _) ∙ rises_by_place m cs at) in
     record {
-      other = rises_within m cs at (length cs) c.in-Some.rise (least_tells (λ x. x.raise) (rises m cs at (length cs)) c.in-Some.rise (sym all ∙ c.in-Some.is)).0;
-      outside = λ l. absurd (omega arith);
-      rule = λ hs t a w. easiest_is m hs cs t a at w c.loop-place.best all ∙ ap (option_map (label_of cs)) c.in-Some.is;
-    }
-
-pub returns-in-None : goal.returns-in-None
-returns-in-None g c =
-    let m = g.D.Domain.meaning c.args.d.now in
-    let cs = c.args.clusters.now in
-    let at = c.args.at in
-    let end : c.loop-place.place ≡ length cs = omega arith in
-    let all : c.loop-place.best ≡ least (λ x. x.raise) (rises m cs at (length cs)) = c.loop-place.invariant ∙ ap (λ n. least (λ x. x.raise) (rises m cs at n)) end in
-    record {
-      other = inl (rises_none m cs at (length cs) (least_none (λ x. x.raise) (rises m cs at (length cs)) (sym all ∙ c.in-None.is)));
-      outside = λ l. refl;
-      rule = λ hs t a w. easiest_is m hs cs t a at w c.loop-place.best all ∙ ap (option_map (label_of cs)) c.in-None.is;
+      other = subst (λ o. MatchOption o ((length cs ≤ 1) ⊎ (length cs ≤ at)) (λ j. (j < length cs) × (j ≡ at → ⊥))) (sym place) (other_is m cs at best is);
+      outside = λ l. absurd (omega (arith, found.0, l));
+      rule = λ hs t a w. easiest_is m hs cs t a at w best is ∙ ap (option_map (label_at cs)) (sym place);
     }

@@ -1,4 +1,5 @@
-use Rattle.std.proofs.Common.{vec_items, sym, ap, ◌∙◌}
+use Rattle.std.proofs.Common.{not, eqb, vec_items, sym, ap, ◌∙◌, rules}
+use Rattle.std.proofs.lemmas.Fn.{filter_same}
 use Rattle.pool.specs.Changes.{other_rows}
 use Rattle.pool.specs.Tables.{table}
 use Rattle.pool.proofs.Rows.{table_closed}
@@ -7,10 +8,12 @@ use Rattle.pool.proofs.Pool.close_cluster.Goals as goal
 pub returns : goal.returns
 returns c =
     let l = c.args.label in
-    let hs = vec_items c.args.self.now.held in
+    let p = c.args.self.now in
+    let held = filter_same _ (λ h. not (eqb h.label l)) _ (λ x b f' k. search rules) _ _ c.retain.ensures.filtered in
+    let rows = filter_same _ (λ x. not (eqb x.label l)) _ (λ x b f' k. search rules) _ _ c.retain-2.ensures.filtered in
     record {
-      held = c.drop_members.ensures.items;
-      clusters = c.drop_row.ensures.items;
-      faithful = λ m f. c.drop_row.ensures.items ∙ ap (other_rows l) f ∙ sym (table_closed m l hs) ∙ ap (table m) (sym c.drop_members.ensures.items);
-      memory = record { for_held = c.drop_members.ensures.memory; for_clusters = c.drop_row.ensures.memory };
+      held = held;
+      clusters = rows;
+      faithful = λ m f. rows ∙ ap (other_rows l) f ∙ sym (table_closed m l (vec_items p.held)) ∙ ap (table m) (sym held);
+      memory = record { for_held = c.retain.ensures.capacity; for_clusters = c.retain-2.ensures.capacity };
     }

@@ -17,10 +17,10 @@ returns-then-at-len g c =
     let yes : ltb at (vec_len p.held) ≡ true = lt-ltb _ _ (omega arith) in
     let gone = c.remove-gone.ensures in
     let label = label_of_at hs at c.remove-gone.result within gone.value in
-    let row = c.renew.ensures.items ∙ ap (λ ks. renewed m ks c.remove-gone.result.label cs) (c.as_slice.ensures.value ∙ gone.items) ∙ ap (λ l. renewed m (remove hs at) l cs) label in
+    let row = c.renew.ensures.clusters ∙ ap (λ ks. renewed m ks c.remove-gone.result.label cs) gone.items ∙ ap (λ l. renewed m (remove hs at) l cs) label in
     record {
-      held = gone.items ∙ sym (cond-true _ _ hs yes);
+      held = ap vec_items c.renew.ensures.held ∙ gone.items ∙ sym (cond-true _ _ hs yes);
       clusters = row ∙ sym (cond-true _ _ cs yes);
-      faithful = λ f. row ∙ ap (renewed m (remove hs at) (label_of hs at)) f ∙ left_table m hs at within ∙ ap (table m) (sym gone.items);
-      memory = record { for_held = gone.capacity; for_clusters = c.renew.ensures.memory };
+      faithful = λ f. row ∙ ap (renewed m (remove hs at) (label_of hs at)) f ∙ left_table m hs at within ∙ ap (table m) (sym (ap vec_items c.renew.ensures.held ∙ gone.items));
+      memory = record { for_held = c.renew.ensures.memory.for_held ∙ gone.capacity; for_clusters = c.renew.ensures.memory.for_clusters };
     }

@@ -1,25 +1,13 @@
-use Rattle.std.proofs.Common.{ltb, sym, ap, ◌∙◌, arith}
-use Rattle.std.proofs.lemmas.List.{take_all}
-use Rattle.std.proofs.lemmas.Bool.{le-ltb}
-use Rattle.rules.specs.Clusters.{records, size}
-use Rattle.pool.proofs.Scans.{name_new, name_known, names_within}
-use Rattle.pool.proofs.members.names_fewer.Goals.{then-not-names, else-not-names}
+use Rattle.std.proofs.Common.{ltb, true, rules, tests, ◌∙◌, ap}
+use Rattle.std.proofs.lemmas.Iterator.{YieldsList-from_slice, YieldsList-from_take}
+use Rattle.std.proofs.lemmas.Iterator.Consumers.{YieldsList-at, YieldsList-from_filter, YieldsList-from_enumerate, count_from_yields_List}
+use Rattle.rules.specs.Clusters.{records}
+use Rattle.pool.proofs.Scans.{is_earliest, records_push, count_names, few_front}
 use Rattle.pool.proofs.members.names_fewer.Goals as goal
 
-pub returns-then-n-k : goal.returns-then-n-k
-returns-then-n-k c =
-    let hs = c.args.held.now in
-    sym (le-ltb (size (records hs)) c.args.k (omega (arith, c.loop-i.invariant.0, names_within hs c.loop-i.i)))
-
-pub loop-i-preserved : goal.loop-i-preserved
-loop-i-preserved c =
-    let hs = c.args.held.now in
-    let i = c.loop-i.i in
-    let inv = c.loop-i.invariant in
-    elim c.if-not-names.branch [
-      | then-not-names w ↦ (w.n-is ∙ name_new hs i _ (omega arith) _ inv.0 (sym w.if-not-names.ensures), omega (arith, w.n-is))
-      | else-not-names w ↦ (w.n-is ∙ name_known hs i _ (omega arith) _ inv.0 (sym w.if-not-names.ensures), omega (arith, w.n-is))
-    ]
-
 pub returns : goal.returns
-returns c = ap (λ n. ltb n c.args.k) (c.loop-i.invariant.0 ∙ ap (λ t. size (records t)) (take_all c.loop-i.i c.args.held.now (omega arith)))
+returns c =
+    let hs = c.args.held.now in
+    let k = c.args.k in
+    ap (λ n. ltb n k) (count_from_yields_List c.take.result _ c.count-owners.ensures.ran (YieldsList-from_take k (YieldsList-at c.take.ensures.source (YieldsList-from_filter _ (is_earliest records (λ _. true) records_push hs) (YieldsList-from_enumerate (YieldsList-from_slice hs cc) cc) c.filter.ensures.closure (λ x b q k. search (rules, tests)))) c.take.ensures.count))
+    ∙ few_front k _ ∙ ap (λ n. ltb n k) (count_names hs)
