@@ -1,4 +1,5 @@
 pub mod Writing
+pub mod Firsts
 pub mod Deadlines
 pub mod Steps
 pub mod Draining

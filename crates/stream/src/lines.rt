@@ -37,10 +37,7 @@ pub(crate) fn put(list: &mut [Line], n: usize, line: Line) -> usize
 fn says(mark: Option<usize>, part: usize) -> bool
     ensures { result ≡ says part mark }
 {
-    match mark {
-        Some(place) => place == part,
-        None => false,
-    }
+    mark == Some(part)
 }
 
 // Writes the records that are marked as of the part, as released in a box of that number and these ranges, from place

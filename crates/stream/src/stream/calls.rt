@@ -58,10 +58,7 @@ impl<D: Domain> Stream<D> {
         } else if room <= self.pool.held.len() {
             Some(Refusal::ShortList)
         } else {
-            match unfit(&self.domain, fed) {
-                Some(column) => Some(Refusal::Unfit(column)),
-                None => None,
-            }
+            unfit(&self.domain, fed).map(Refusal::Unfit)
         }
     }
 

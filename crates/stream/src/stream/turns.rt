@@ -49,10 +49,8 @@ impl<D: Domain> Stream<D> {
     fn size_of(&self, label: u32) -> usize
         ensures { Stands (D.meaning self.now.domain) self.now → result ≡ clustering.size (clustering.members label self.now.pool.held.items) }
     {
-        match find(self.pool.clusters.as_slice(), label) {
-            Some(at) => self.pool.clusters[at].size,
-            None => 0,
-        }
+        let clusters = self.pool.clusters.as_slice();
+        find(clusters, label).map_or(0, |at| clusters[at].size)
     }
 
     // Whether more than half of the open clusters have more owners than the record's, which has `size`.
@@ -92,13 +90,9 @@ impl<D: Domain> Stream<D> {
             return None;
         }
         let clusters = self.pool.clusters.as_slice();
-        let Some(taker) = find(clusters, label) else {
-            return None;
-        };
-        match easiest(&self.domain, clusters, taker) {
-            Some(other) => Some(Merger { taker, other }),
-            None => None,
-        }
+        let taker = find(clusters, label)?;
+        let other = easiest(&self.domain, clusters, taker)?;
+        Some(Merger { taker, other })
     }
 
     // One round of taking over: whether there was a merger.
@@ -106,13 +100,11 @@ impl<D: Domain> Stream<D> {
         ensures terms { SameTerms self.old self.new }
         ensures round { Stands (D.meaning self.old.domain) self.old → AllByRecursion (λ h. Fit (D.meaning self.old.domain) h.entry) self.old.pool.held.items → In (clustering.clusters self.old.pool.held.items) label → Round (D.meaning self.old.domain) label result self.old self.new }
     {
-        match self.next_merger(label) {
-            Some(merger) => {
-                self.pool.merge(&self.domain, merger.taker, merger.other);
-                true
-            }
-            None => false,
-        }
+        let Some(merger) = self.next_merger(label) else {
+            return false;
+        };
+        self.pool.merge(&self.domain, merger.taker, merger.other);
+        true
     }
 
     // Takes over clusters until the cluster names a crowd. Each round closes one, so as many rounds as records are enough.
