@@ -119,24 +119,25 @@ impl<D: Domain> Stream<D> {
         }
     }
 
-    // The record at place `at` has its turn: the first rule that fits is applied, and its lines are written from place `n`
-    // on. Answers the place behind them.
-    pub(crate) fn turn(&mut self, at: usize, list: &mut [Line], n: usize) -> usize
+    // The record at place `at` has its turn: the first rule that fits is applied. Its lines begin the list; the answer
+    // tells how many.
+    pub(crate) fn turn(&mut self, at: usize, list: &mut [Line]) -> usize
         requires { at < vec_len self.old.pool.held }
         ensures terms { SameTerms self.old self.new }
-        ensures comes { (t : Held) → slice_index_or self.old.pool.held.items at t ≡ t → open_refusal (D.meaning self.old.domain) self.old.settings ≡ None → Between (D.meaning self.old.domain) self.old.settings (view self.old) → Stands (D.meaning self.old.domain) self.old → n + length self.old.pool.held.items ≤ length list.old → Comes (D.meaning self.old.domain) (turns.turn (D.meaning self.old.domain) self.old.settings (view self.old) t) n list.old list.new result self.new }
+        ensures comes { (t : Held) → slice_index_or self.old.pool.held.items at t ≡ t → open_refusal (D.meaning self.old.domain) self.old.settings ≡ None → Between (D.meaning self.old.domain) self.old.settings (view self.old) → Stands (D.meaning self.old.domain) self.old → length self.old.pool.held.items ≤ length list.old → Comes (D.meaning self.old.domain) (turns.turn (D.meaning self.old.domain) self.old.settings (view self.old) t) list.old list.new result self.new }
+        ensures fits { result ≤ length list.old }
     {
         let turn = self.pool.held[at];
         match self.rule(&turn) {
-            Rule::Large => self.release(turn.label, list, n),
+            Rule::Large => self.release(turn.label, list),
             Rule::Covered(cover) => {
                 let line = line_of(&turn.entry, Manner::Reused, cover.number, &cover.ranges);
-                self.write_off(at, line, list, n)
+                self.write_off(at, line, list)
             }
-            Rule::Outnumbered | Rule::TooFew => self.suppress(at, &turn.entry, list, n),
+            Rule::Outnumbered | Rule::TooFew => self.suppress(at, &turn.entry, list),
             Rule::Joining => {
                 self.grow(turn.label);
-                self.release(turn.label, list, n)
+                self.release(turn.label, list)
             }
         }
     }
