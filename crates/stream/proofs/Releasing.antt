@@ -4,7 +4,6 @@ use Rattle.std.specs.List.{between}
 use Rattle.std.specs.Option.{option_eq}
 use Rattle.std.proofs.lemmas.List.{length-map, length_push, map_push}
 use Rattle.release.specs.declared.Line.{Line}
-use Rattle.rules.specs.declared.Entry.{Entry}
 use Rattle.rules.specs.declared.Held.{Held}
 use Rattle.rules.specs.Clusters.{Box}
 use Rattle.split.specs.Parted.{says, marked}

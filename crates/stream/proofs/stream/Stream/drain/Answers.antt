@@ -1,4 +1,4 @@
-use Rattle.std.proofs.Common.{◌≡◌, suc, ◌+◌, ◌-◌, ◌<◌, ◌≤◌, length, vec_items, refl, ap, ◌∙◌, subst, inl, inr, arith, rules, tests}
+use Rattle.std.proofs.Common.{◌≡◌, suc, ◌+◌, ◌-◌, ◌<◌, length, vec_items, refl, ap, ◌∙◌, subst, inl, inr, arith, rules, tests}
 use Rattle.std.proofs.lemmas.List.{nil_from_length}
 use Rattle.std.proofs.lemmas.List.Edits.{length-between}
 use Rattle.stream.proofs.Emptying.{Empties, empties_none, empties_more, empties_end}
