@@ -5,6 +5,7 @@ pub mod Steps
 pub mod Draining
 pub mod Sizes
 pub mod Arriving
+pub mod Merging
 pub mod Growing
 pub mod Releasing
 pub mod Outputs

@@ -49,11 +49,14 @@ rule_of Joining = turns.joining
 abbrev pub Wanting : {D : Type 0} → Stream D → ℕ → Bool → Type 0
 Wanting s c b = nat_le (crowd s.settings (view s)) (size (members c (vec_items s.pool.held))) ≡ not b
 
+-- places of two clusters, of which c is the taker
+abbrev pub AreApart : {D : Type 0} → Stream D → ℕ → Merger → Type 0
+AreApart s c x = (are_two s.pool x.taker x.other ≡ true) × (label_at (vec_items s.pool.clusters) x.taker ≡ c)
+
 -- the next merger of cluster c: it names fewer than a crowd, and the other joins it most easily; none where there is no need,
 -- or no other
 abbrev pub NextMerger : {D : Type 0} → Meaning → Stream D → ℕ → Option Merger → Type 0
-NextMerger m s c (Some x) =
-    Wanting s c true × (are_two s.pool x.taker x.other ≡ true) × (label_at (vec_items s.pool.clusters) x.taker ≡ c) × (turns.easiest m c (vec_items s.pool.held) ≡ Some (label_at (vec_items s.pool.clusters) x.other))
+NextMerger m s c (Some x) = Wanting s c true × (turns.easiest m c (vec_items s.pool.held) ≡ Some (label_at (vec_items s.pool.clusters) x.other))
 NextMerger m s c None = Wanting s c false ⊎ (turns.easiest m c (vec_items s.pool.held) ≡ None)
 
 -- one round of taking over

@@ -1,5 +1,5 @@
 // A record's turn.
-ghost use Rattle.std.specs.Prelude.{◌≡◌, ℕ, ◌+◌, ◌<◌, ◌≤◌, List, length, Some, None, vec_len, slice_index_or};
+ghost use Rattle.std.specs.Prelude.{◌≡◌, ℕ, ◌<◌, ◌≤◌, true, List, length, IfSome, Some, None, vec_len, slice_index_or};
 ghost use Rattle.std.specs.List.{AllByRecursion};
 ghost use Rattle.rules.specs.declared.Held.{Held};
 ghost use Rattle.rules.specs.Around.{Fit};
@@ -11,7 +11,7 @@ ghost use Rattle.rules.specs.States as states;
 ghost use Rattle.rules.specs.Turn as turns;
 ghost use Rattle.stream.specs.Places.{held_at};
 ghost use Rattle.stream.specs.Views.{view, Stands};
-ghost use Rattle.stream.specs.Within.{SameTerms, Holds, Comes, NextMerger, Round, rule_of};
+ghost use Rattle.stream.specs.Within.{SameTerms, Holds, Comes, AreApart, NextMerger, Round, rule_of};
 
 use super::Stream;
 use crate::lines::line_of;
@@ -84,7 +84,8 @@ impl<D: Domain> Stream<D> {
 
     // The next merger of a cluster that names fewer than a crowd.
     fn next_merger(&self, label: u32) -> Option<Merger>
-        ensures { Stands (D.meaning self.now.domain) self.now → AllByRecursion (λ h. Fit (D.meaning self.now.domain) h.entry) self.now.pool.held.items → In (clustering.clusters self.now.pool.held.items) label → NextMerger (D.meaning self.now.domain) self.now label result }
+        ensures apart { IfSome result (AreApart self.now label) }
+        ensures next { Stands (D.meaning self.now.domain) self.now → AllByRecursion (λ h. Fit (D.meaning self.now.domain) h.entry) self.now.pool.held.items → In (clustering.clusters self.now.pool.held.items) label → NextMerger (D.meaning self.now.domain) self.now label result }
     {
         if self.size_of(label) >= self.crowd() {
             return None;
@@ -95,8 +96,9 @@ impl<D: Domain> Stream<D> {
         Some(Merger { taker, other })
     }
 
-    // One round of taking over: whether there was a merger.
+    // One round of taking over: whether there was a merger, which closes a cluster.
     fn take_over(&mut self, label: u32) -> bool
+        ensures closes { result ≡ true → vec_len self.new.pool.clusters < vec_len self.old.pool.clusters }
         ensures terms { SameTerms self.old self.new }
         ensures round { Stands (D.meaning self.old.domain) self.old → AllByRecursion (λ h. Fit (D.meaning self.old.domain) h.entry) self.old.pool.held.items → In (clustering.clusters self.old.pool.held.items) label → Round (D.meaning self.old.domain) label result self.old self.new }
     {
@@ -107,16 +109,12 @@ impl<D: Domain> Stream<D> {
         true
     }
 
-    // Takes over clusters until the cluster names a crowd. Each round closes one, so as many rounds as records are enough.
+    // Takes over clusters until the cluster names a crowd, or no other is open.
     fn grow(&mut self, label: u32)
         ensures terms { SameTerms self.old self.new }
         ensures grown { Stands (D.meaning self.old.domain) self.old → AllByRecursion (λ h. Fit (D.meaning self.old.domain) h.entry) self.old.pool.held.items → In (clustering.clusters self.old.pool.held.items) label → Holds (D.meaning self.old.domain) (turns.grown (D.meaning self.old.domain) self.old.settings (view self.old) label) self.new }
     {
-        for _ in 0..self.pool.held.len() {
-            if !self.take_over(label) {
-                break;
-            }
-        }
+        while self.take_over(label) {}
     }
 
     // The record at place `at` has its turn: the first rule that fits is applied. Its lines begin the list; the answer
