@@ -21,9 +21,9 @@ pub struct FeedRefusal {
 // The line is turned away by its reader, or its record by the stream.
 #[derive(Clone, Copy, Debug, PartialEq, Eq, Error)]
 pub enum FeedFault {
-    #[error("{0}")]
+    #[error(transparent)]
     Line(LineFault),
-    #[error("{0}")]
+    #[error(transparent)]
     Feed(FeedRefusal),
 }
 

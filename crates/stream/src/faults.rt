@@ -9,7 +9,7 @@ use thiserror::Error;
 // The domain or the settings were refused, or memory was wanting.
 #[derive(Debug, Clone, Copy, PartialEq, Eq, Error)]
 pub enum OpenFault {
-    #[error("{0}")]
+    #[error(transparent)]
     Refused(OpenRefusal),
     #[error("there is no memory for the stream")]
     Memory,
