@@ -6,28 +6,24 @@ ghost use Rattle.intake.specs.declared.faults.FeedFault.TheVariants.{Line, Feed}
 use report::LineFault;
 use rfc4180::{Diagnostic, Layer, Location};
 use rules::Refusal;
-use std::fmt;
+use thiserror::Error;
 
 // A refusal of feeding, and the line that the record came from: its number and its first byte. Both are 0 where it came
 // from no line.
-#[derive(Clone, Copy, Debug, PartialEq, Eq)]
+#[derive(Clone, Copy, Debug, PartialEq, Eq, Error)]
+#[error("{refusal}")]
 pub struct FeedRefusal {
     pub refusal: Refusal,
     pub line: usize,
     pub byte: usize,
 }
 
-impl fmt::Display for FeedRefusal {
-    fn fmt<W: fmt::Write>(&self, f: &mut fmt::Formatter<W>) -> fmt::Result {
-        let refusal = self.refusal;
-        write!(f, "{refusal}")
-    }
-}
-
 // The line is turned away by its reader, or its record by the stream.
-#[derive(Clone, Copy, Debug, PartialEq, Eq)]
+#[derive(Clone, Copy, Debug, PartialEq, Eq, Error)]
 pub enum FeedFault {
+    #[error(transparent)]
     Line(LineFault),
+    #[error(transparent)]
     Feed(FeedRefusal),
 }
 
@@ -82,14 +78,5 @@ impl From<Refusal> for FeedFault {
             line: 0,
             byte: 0,
         })
-    }
-}
-
-impl fmt::Display for FeedFault {
-    fn fmt<W: fmt::Write>(&self, f: &mut fmt::Formatter<W>) -> fmt::Result {
-        match self {
-            FeedFault::Line(fault) => write!(f, "{fault}"),
-            FeedFault::Feed(refusal) => write!(f, "{refusal}"),
-        }
     }
 }

@@ -34,14 +34,11 @@ pub fn feed_report<D: Domain>(
         values: report.values,
         reading: report.reading,
     };
-    match stream.feed(fed, list) {
-        Ok(count) => Ok(count),
-        Err(refusal) => Err(FeedRefusal {
-            refusal,
-            line: report.line,
-            byte: report.byte,
-        }),
-    }
+    stream.feed(fed, list).map_err(|refusal| FeedRefusal {
+        refusal,
+        line: report.line,
+        byte: report.byte,
+    })
 }
 
 // Feeds the record of a line, if the reader took it. Each layer's fault is passed on whole.

@@ -30,10 +30,7 @@ const EMPTY: Line = Line {
 fn told(answer: Option<Result<usize, FeedFault>>) -> Option<Diagnostic>
     ensures { MatchOption answer (result ≡ None) (λ a. result ≡ reason_told a) }
 {
-    match answer {
-        Some(Err(fault)) => Some(fault.diagnostic()),
-        _ => None,
-    }
+    answer?.err().map(|fault| fault.diagnostic())
 }
 
 #[test]

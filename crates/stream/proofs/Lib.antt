@@ -1,9 +1,11 @@
 pub mod Writing
+pub mod Firsts
 pub mod Deadlines
 pub mod Steps
 pub mod Draining
 pub mod Sizes
 pub mod Arriving
+pub mod Merging
 pub mod Growing
 pub mod Releasing
 pub mod Outputs

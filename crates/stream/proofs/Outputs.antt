@@ -1,6 +1,6 @@
 -- Parts that go out one after the other.
-use Rattle.std.proofs.Common.{◌≡◌, ℕ, ◌+◌, ◌<◌, ◌≤◌, min, List, [], ◌∷◌, map, length, get_or, take, fold, Option, sym, refl, ap, ◌∙◌, subst, arith}
-use Rattle.std.specs.List.{AllByRecursion}
+use Rattle.std.proofs.Common.{◌≡◌, ℕ, ◌+◌, ◌-◌, ◌<◌, ◌≤◌, min, List, [], ◌∷◌, ◌++◌, map, length, get_or, take, fold, Option, sym, refl, ap, ◌∙◌, subst, arith}
+use Rattle.std.specs.List.{AllByRecursion, between}
 use Rattle.std.proofs.ByRecursion.{All-weaker}
 use Rattle.std.proofs.lemmas.List.{length-append, length-map, length-take-le, get_or-map, take_all, take_more}
 use Rattle.std.proofs.lemmas.List.FromFn.{get_or-map-range_with_len}
@@ -22,9 +22,10 @@ use Rattle.rules.proofs.Totals.{total_push, total_take, length_total}
 use Rattle.rules.proofs.Parts.{totals, parts_total, parts_large}
 use Rattle.split.specs.declared.Part.{Part}
 use Rattle.split.specs.Parted.{marked, part_of, Parted}
-use Rattle.stream.specs.Writing.{put_at, released, Releases}
+use Rattle.stream.specs.Writing.{released, Writes}
 use Rattle.stream.specs.Releases.{out_of, PartsOut}
-use Rattle.stream.proofs.Writing.{put_none, put_put, length_put}
+use Rattle.stream.proofs.Writing.{writes_none, writes_more, space}
+use borrow.Rule.Slice.PartMut.{put_mid}
 
 -- ---- what the parts so far come to
 
@@ -64,15 +65,15 @@ pub parted_at : (m : Meaning) (k : ℕ) {c c' : ℕ} {hs hs' : List Held} {ms ms
 parted_at m k {c} {c'} {hs} {hs'} {ms} {ms'} {bs} {bs'} p q r u x = subst (λ a. Parted m k c' hs' ms' a) u (subst (λ a. Parted m k c' hs' a bs) r (subst (λ a. Parted m k c' a ms bs) q (subst (λ a. Parted m k a hs ms bs) p x)))
 
 -- what is given of a cluster that goes out
-pub record Given (m : Meaning) (g : Settings) (k c : ℕ) (hs : List Held) (marks : List (Option ℕ)) (boxes : List Part) (ledger : Ledger) (n : ℕ) (list : List Line) : Type 0 where
+pub record Given (m : Meaning) (g : Settings) (k c : ℕ) (hs : List Held) (marks : List (Option ℕ)) (boxes : List Part) (ledger : Ledger) (list : List Line) : Type 0 where
   pub crowd : 1 ≤ k
   pub parted : Parted m k c hs marks boxes
   pub window : g.mu ≡ window_of ledger
   pub kept : KeptWell m g.rho ledger
   pub numbers : (ledger_boxes ledger).made + length boxes ≤ 4294967295
-  pub room : n + length (members c hs) ≤ length list
+  pub room : length (members c hs) ≤ length list
 
-module _ {m : Meaning} {g : Settings} {k c : ℕ} {hs : List Held} {marks : List (Option ℕ)} {boxes : List Part} {ledger : Ledger} {n : ℕ} {list : List Line} (given : Given m g k c hs marks boxes ledger n list) where
+module _ {m : Meaning} {g : Settings} {k c : ℕ} {hs : List Held} {marks : List (Option ℕ)} {boxes : List Part} {ledger : Ledger} {list : List Line} (given : Given m g k c hs marks boxes ledger list) where
   abbrev ps : List (List Entry)
   ps = parts m k (members c hs)
 
@@ -101,41 +102,38 @@ module _ {m : Meaning} {g : Settings} {k c : ℕ} {hs : List Held} {marks : List
   low_number : (j : ℕ) → j < length boxes → (so_far j).boxes.made < 4294967295
   low_number j l = omega (arith, out_made m g (ledger_boxes ledger) (take j ps), given.numbers, l, length-take-le j ps (omega (arith, l, as_many)))
 
-  pub out_none : PartsOut m g (take 0 ps) ledger ledger n list list n
-  out_none = record { boxes = refl; kept = given.kept; lines = sym (put_none n list); counts = omega arith }
+  pub out_none : PartsOut m g (take 0 ps) ledger ledger list list 0
+  out_none = record { boxes = refl; kept = given.kept; writes = writes_none list }
 
   -- before part j
-  module _ (j : ℕ) (l : j < length boxes) (was : Ledger) (before : List Line) (at : ℕ) (out : PartsOut m g (take j ps) ledger was n list before at) where
+  module _ (j : ℕ) (l : j < length boxes) (was : Ledger) (now : List Line) (n : ℕ) (room : n ≤ length now) (out : PartsOut m g (take j ps) ledger was list now n) where
     pub priced : (d : Part) → (get_or boxes j d).loss ≡ box_loss m (get_or boxes j d).bounds
     priced d = ap (λ (b : Part). b.loss) (box_at j d l) ∙ ap (box_loss m) (sym (ap (λ (b : Part). b.bounds) (box_at j d l)))
 
     pub low : (ledger_boxes was).made < 4294967295
     low = omega (arith, low_number j l, ap (λ (b : Boxes). b.made) out.boxes)
 
-    pub space : at + length (marked j marks hs) ≤ length before
-    space = omega (arith, out.counts, few_lines j l, ap length (part_at j l), given.room, ap length out.lines, length_put n (so_far j).lines list (omega (arith, few_lines j l, given.room)))
+    pub enough : length (marked j marks hs) ≤ length (between n (length now) now)
+    enough = space (so_far j).lines list now n room out.writes (length (marked j marks hs)) (omega (arith, few_lines j l, ap length (part_at j l), given.room))
 
-    pub out_more : (d : Part) (is : Ledger) (after : List Line) (number behind : ℕ) → Enters m g was (record { number = (ledger_boxes was).made + 1; ranges = (get_or boxes j d).bounds }) is → number ≡ min ((ledger_boxes was).made + 1) 4294967295
-        → Releases number (get_or boxes j d).bounds (marked j marks hs) at before after behind → PartsOut m g (take (j + 1) ps) ledger is n list after behind
-    out_more d is after number behind e num w =
+    pub out_more : (d : Part) (is : Ledger) (part : List Line) (number count : ℕ) → Enters m g was (record { number = (ledger_boxes was).made + 1; ranges = (get_or boxes j d).bounds }) is → number ≡ min ((ledger_boxes was).made + 1) 4294967295
+        → Writes (map (released number (get_or boxes j d).bounds) (marked j marks hs)) (between n (length now) now) part count → PartsOut m g (take (j + 1) ps) ledger is list (put_mid n (length now - n) now part) (n + count)
+    out_more d is part number count e num w =
         let q = get_or ps j [] in
         let o = so_far j in
         let made : (ledger_boxes was).made ≡ o.boxes.made = ap (λ (b : Boxes). b.made) out.boxes in
         let number_is : number ≡ o.boxes.made + 1 = omega (arith, num, low, made) in
         let ranges_is : (get_or boxes j d).bounds ≡ box_of m q = ap (λ (b : Part). b.bounds) (box_at j d l) in
-        let ls = map (released (o.boxes.made + 1) (box_of m q)) q in
-        let lines_are : map (released number (get_or boxes j d).bounds) (marked j marks hs) ≡ ls = ap (λ x. map (released x (get_or boxes j d).bounds) (marked j marks hs)) number_is ∙ ap (λ x. map (released (o.boxes.made + 1) x) (marked j marks hs)) ranges_is ∙ ap (map (released (o.boxes.made + 1) (box_of m q))) (sym (part_at j l)) in
-        let long : length ls ≡ length q = length-map q (released (o.boxes.made + 1) (box_of m q)) in
+        let lines_are = ap (λ x. map (released x (get_or boxes j d).bounds) (marked j marks hs)) number_is ∙ ap (λ x. map (released (o.boxes.made + 1) x) (marked j marks hs)) ranges_is ∙ ap (map (released (o.boxes.made + 1) (box_of m q))) (sym (part_at j l)) in
         let step = more j l in
         record {
           boxes = e.boxes ∙ ap (λ b. entered_mean m g b (record { number = (ledger_boxes was).made + 1; ranges = (get_or boxes j d).bounds })) out.boxes
               ∙ ap (λ x. entered_mean m g o.boxes (record { number = x + 1; ranges = (get_or boxes j d).bounds })) made ∙ ap (λ x. entered_mean m g o.boxes (record { number = o.boxes.made + 1; ranges = x })) ranges_is
               ∙ sym (ap (λ (x : Output). x.boxes) step);
           kept = e.well;
-          lines = w.lines ∙ ap (λ x. put_at at x before) lines_are ∙ ap (put_at at ls) out.lines ∙ ap (λ x. put_at x ls (put_at n o.lines list)) out.counts
-              ∙ put_put n o.lines ls list (omega (arith, long, few_lines j l, given.room)) ∙ ap (λ (x : Output). put_at n x.lines list) (sym step);
-          counts = omega (arith, w.counts, out.counts, ap length (part_at j l), long, length-append o.lines ls, ap (λ (x : Output). length x.lines) step);
+          writes = subst (λ ls. Writes ls list (put_mid n (length now - n) now part) (n + count)) (ap (λ ls. o.lines ++ ls) lines_are ∙ sym (ap (λ (x : Output). x.lines) step))
+              (writes_more o.lines list now n room out.writes (map (released number (get_or boxes j d).bounds) (marked j marks hs)) part count w);
         }
 
-  pub out_all : (j : ℕ) (was : Ledger) (before : List Line) (at : ℕ) → length boxes ≤ j → PartsOut m g (take j ps) ledger was n list before at → PartsOut m g ps ledger was n list before at
-  out_all j was before at l out = subst (λ qs. PartsOut m g qs ledger was n list before at) (take_all j ps (omega (arith, l, as_many))) out
+  pub out_all : (j : ℕ) (was : Ledger) (now : List Line) (n : ℕ) → length boxes ≤ j → PartsOut m g (take j ps) ledger was list now n → PartsOut m g ps ledger was list now n
+  out_all j was now n l out = subst (λ qs. PartsOut m g qs ledger was list now n) (take_all j ps (omega (arith, l, as_many))) out

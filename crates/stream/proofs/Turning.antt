@@ -1,5 +1,5 @@
 -- A turn, rule by rule.
-use Rattle.std.proofs.Common.{◌≡◌, ℕ, zero, suc, ◌+◌, ◌<◌, ◌≤◌, ◌⊎◌, List, [], ◌∷◌, length, get_or, None, vec_items, sym, refl, ap, ◌∙◌, subst, inl, inr, arith}
+use Rattle.std.proofs.Common.{◌≡◌, ℕ, zero, suc, ◌<◌, ◌≤◌, ◌⊎◌, List, [], ◌∷◌, length, get_or, None, vec_items, sym, refl, ap, ◌∙◌, subst, inl, inr, arith}
 use Rattle.std.proofs.lemmas.List.{get_or_default}
 use Rattle.domain.specs.Meaning.{Meaning}
 use Rattle.release.specs.declared.Line.{Line}
@@ -33,33 +33,33 @@ module _ {D : Type 0} where
   held s = vec_items s.pool.held
 
   -- what is promised of the release of a cluster
-  abbrev pub Releases : Meaning → Stream D → ℕ → ℕ → List Line → List Line → ℕ → Stream D → Type 0
-  Releases m s c n before after count t =
-      open_refusal m s.settings ≡ None → Between m s.settings (view s) → Stands m s → In (clusters (held s)) c → s.settings.k ≤ size (members c (held s)) → n + length (held s) ≤ length before
-      → Comes m (release m s.settings (view s) c) n before after count t
+  abbrev pub Releases : Meaning → Stream D → ℕ → List Line → List Line → ℕ → Stream D → Type 0
+  Releases m s c before after count t =
+      open_refusal m s.settings ≡ None → Between m s.settings (view s) → Stands m s → In (clusters (held s)) c → s.settings.k ≤ size (members c (held s)) → length (held s) ≤ length before
+      → Comes m (release m s.settings (view s) c) before after count t
 
   module _ (m : Meaning) (s : Stream D) (t : Held) (i : In (held s) t) (taken : open_refusal m s.settings ≡ None) (between : Between m s.settings (view s)) (stands : Stands m s)
-      (n : ℕ) (before : List Line) (room : n + length (held s) ≤ length before) where
+      (before : List Line) (room : length (held s) ≤ length before) where
     by_rule : (r : Rule) → r ≡ rule m s.settings (view s) t → applied m s.settings (view s) t r ≡ turn m s.settings (view s) t
     by_rule r e = ap (applied m s.settings (view s) t) e
 
-    pub large_turn : (after : List Line) (count : ℕ) (u : Stream D) → large ≡ rule m s.settings (view s) t → Releases m s t.label n before after count u → Comes m (turn m s.settings (view s) t) n before after count u
+    pub large_turn : (after : List Line) (count : ℕ) (u : Stream D) → large ≡ rule m s.settings (view s) t → Releases m s t.label before after count u → Comes m (turn m s.settings (view s) t) before after count u
     large_turn after count u e f =
         let says : s.settings.k ≤ size (members t.label (held s)) = subst (Says m s.settings (view s) t) (sym e) (rule_says m s.settings (view s) t) in
-        subst (λ o. Comes m o n before after count u) (by_rule large e) (f taken between stands (is_open t.label (held s) t i refl) says room)
+        subst (λ o. Comes m o before after count u) (by_rule large e) (f taken between stands (is_open t.label (held s) t i refl) says room)
 
     pub suppressed_turn : (r : Rule) → r ≡ rule m s.settings (view s) t → (r ≡ outnumbered) ⊎ (r ≡ too_few) → suppress (view s) t ≡ turn m s.settings (view s) t
     suppressed_turn r e (inl f) = ap (applied m s.settings (view s) t) (sym f ∙ e)
     suppressed_turn r e (inr f) = ap (applied m s.settings (view s) t) (sym f ∙ e)
 
     pub joining_turn : (m' : Meaning) (s' u : Stream D) (after : List Line) (count : ℕ) → joining ≡ rule m s.settings (view s) t → m' ≡ m → SameTerms s s' → Holds m (grown m s.settings (view s) t.label) s'
-        → Releases m' s' t.label n before after count u → Comes m (turn m s.settings (view s) t) n before after count u
+        → Releases m' s' t.label before after count u → Comes m (turn m s.settings (view s) t) before after count u
     joining_turn m' s' u after count e same terms h f =
         let g = s.settings in
         let c = t.label in
         let s'' = grown m g (view s) c in
         let says = subst (Says m g (view s) t) (sym e) (rule_says m g (view s) t) in
-        let f' : Releases m s' c n before after count u = subst (λ x. Releases x s' c n before after count u) same f in
+        let f' : Releases m s' c before after count u = subst (λ x. Releases x s' c before after count u) same f in
         let now_held : held s' ≡ s''.held = ap (λ x. x.held) h.state in
         let come = f'
         (subst (λ x. open_refusal m x ≡ None) (sym terms.settings) taken)
@@ -68,6 +68,6 @@ module _ {D : Type 0} where
         (subst (λ x. In (clusters x) c) (sym now_held) (grown_open m g (view s) c (is_open c (held s) t i refl)))
         (subst (λ x. x.k ≤ size (members c (held s'))) (sym terms.settings) (subst (λ x. g.k ≤ size (members c x)) (sym now_held) (grown_large m g (view s) c says)))
         (omega (arith, room, ap length now_held, grown_length m g (view s) c)) in
-        subst (λ o. Comes m o n before after count u)
+        subst (λ o. Comes m o before after count u)
         (ap (λ x. release m x (view s') c) terms.settings ∙ ap (λ x. release m g x c) h.state ∙ by_rule joining e)
         come

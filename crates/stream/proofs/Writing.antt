@@ -1,50 +1,46 @@
--- Lines put on a list one after the other.
-use Rattle.std.proofs.Common.{◌≡◌, ℕ, ◌+◌, ◌<◌, ◌≤◌, List, [], ◌∷◌, ◌++◌, length, take, drop, set, sym, ap, ◌∙◌, add-zero, add_assoc, arith}
-use Rattle.std.proofs.lemmas.List.{append_assoc, length-append, length-drop, length-take-le, take-append-drop, take_at, drop_at, drop-drop, drop_more, set_at}
+-- Lines put at the front of a list, one after the other.
+use Rattle.std.proofs.Common.{◌≡◌, ℕ, ◌+◌, ◌-◌, ◌<◌, ◌≤◌, List, [], ◌∷◌, ◌++◌, min, length, take, drop, set, sym, refl, ap, ◌∙◌, arith}
+use Rattle.std.specs.List.{between}
+use Rattle.std.proofs.lemmas.List.{append-nil, append_assoc, length-append, length-drop, take_at, drop_at, drop-drop, drop_all}
+use Rattle.std.proofs.lemmas.Slice.{between_to_end}
+use borrow.Rule.Slice.PartMut.{put_mid}
 use Rattle.release.specs.declared.Line.{Line}
-use Rattle.stream.specs.Writing.{put_at}
+use Rattle.stream.specs.Writing.{put_front, Writes}
 
--- what stands behind the lines
-abbrev behind : ℕ → List Line → List Line → List Line
-behind n ls list = drop (n + length ls) list
+pub writes_none : (list : List Line) → Writes [] list list 0
+writes_none list = record { lines = refl; counts = refl }
 
-pub put_none : (n : ℕ) (list : List Line) → put_at n [] list ≡ list
-put_none n list = ap (λ k. take n list ++ drop k list) (add-zero n) ∙ take-append-drop n list
+pub length_put : (ls list : List Line) → length ls ≤ length list → length (put_front ls list) ≡ length list
+length_put ls list l = length-append ls (drop (length ls) list) ∙ omega (arith, length-drop (length ls) list)
 
-pub length_put : (n : ℕ) (ls list : List Line) → n + length ls ≤ length list → length (put_at n ls list) ≡ length list
-length_put n ls list l =
-    length-append (take n list) (ls ++ behind n ls list) ∙ ap (λ k. length (take n list) + k) (length-append ls (behind n ls list))
-    ∙ omega (arith, length-take-le n list (omega arith), length-drop (n + length ls) list)
+pub take_put : (ls list : List Line) → take (length ls) (put_front ls list) ≡ ls
+take_put ls list = take_at ls (drop (length ls) list) (length ls) refl
 
--- the lines up to their end
-front : (n : ℕ) (ls list : List Line) → n + length ls ≤ length list → length (take n list ++ ls) ≡ n + length ls
-front n ls list l = length-append (take n list) ls ∙ ap (λ k. k + length ls) (length-take-le n list (omega arith))
+pub drop_put : (ls list : List Line) → drop (length ls) (put_front ls list) ≡ drop (length ls) list
+drop_put ls list = drop_at ls (drop (length ls) list) (length ls) refl
 
-grouped : (n : ℕ) (ls list : List Line) → put_at n ls list ≡ (take n list ++ ls) ++ behind n ls list
-grouped n ls list = sym (append_assoc (take n list) ls (behind n ls list))
+pub put_one : (l : Line) (list : List Line) → 0 < length list → set list 0 l ≡ put_front (l ∷ []) list
+put_one l [] h = absurd (omega (arith, h))
+put_one l (x ∷ list) h = refl
 
-pub take_put : (n : ℕ) (ls list : List Line) → n + length ls ≤ length list → take (n + length ls) (put_at n ls list) ≡ take n list ++ ls
-take_put n ls list l = ap (take (n + length ls)) (grouped n ls list) ∙ take_at (take n list ++ ls) (behind n ls list) (n + length ls) (front n ls list l)
+pub writes_one : (l : Line) (list after : List Line) (n : ℕ) → 0 < length list → after ≡ set list 0 l → n ≡ min 1 (length list) → Writes (l ∷ []) list after n
+writes_one l list after n h a c = record { lines = a ∙ put_one l list h; counts = omega arith }
 
-pub drop_put : (n : ℕ) (ls list : List Line) → n + length ls ≤ length list → drop (n + length ls) (put_at n ls list) ≡ drop (n + length ls) list
-drop_put n ls list l = ap (drop (n + length ls)) (grouped n ls list) ∙ drop_at (take n list ++ ls) (behind n ls list) (n + length ls) (front n ls list l)
+-- n lines were written, and then k at the front of what stands behind them
+module _ (ls before list : List Line) (n : ℕ) (h : n ≤ length list) (w : Writes ls before list n) where
+  pub behind : between n (length list) list ≡ drop (length ls) before
+  behind = between_to_end list n (length list) (omega arith) ∙ ap (drop n) w.lines ∙ ap (λ i. drop i (put_front ls before)) w.counts ∙ drop_put ls before
 
--- more lines behind them
-pub put_put : (n : ℕ) (ls ks list : List Line) → n + length ls + length ks ≤ length list → put_at (n + length ls) ks (put_at n ls list) ≡ put_at n (ls ++ ks) list
-put_put n ls ks list l =
-    let fits : n + length ls ≤ length list = omega arith in
-    let a : take (n + length ls) (put_at n ls list) ≡ take n list ++ ls = take_put n ls list fits in
-    let b : drop (n + length ls + length ks) (put_at n ls list) ≡ drop (n + length (ls ++ ks)) list =
-    sym (drop-drop (length ks) (n + length ls) (put_at n ls list)) ∙ ap (drop (length ks)) (drop_put n ls list fits) ∙ drop-drop (length ks) (n + length ls) list
-    ∙ ap (λ k. drop k list) (add_assoc n (length ls) (length ks) ∙ ap (λ k. n + k) (sym (length-append ls ks))) in
-    ap (λ t. t ++ (ks ++ drop (n + length ls + length ks) (put_at n ls list))) a ∙ ap (λ t. (take n list ++ ls) ++ (ks ++ t)) b
-    ∙ append_assoc (take n list) ls (ks ++ drop (n + length (ls ++ ks)) list) ∙ ap (λ t. take n list ++ t) (sym (append_assoc ls ks (drop (n + length (ls ++ ks)) list)))
+  pub writes_more : (ks part : List Line) (k : ℕ) → Writes ks (between n (length list) list) part k → Writes (ls ++ ks) before (put_mid n (length list - n) list part) (n + k)
+  writes_more ks part k v =
+      let ahead : take n list ≡ ls = ap (take n) w.lines ∙ ap (λ i. take i (put_front ls before)) w.counts ∙ take_put ls before in
+      let none : drop (length list - n) (drop n list) ≡ [] = drop_all (length list - n) (drop n list) (omega (arith, length-drop n list)) in
+      record {
+        lines = ap (λ t. t ++ (part ++ drop (length list - n) (drop n list))) ahead ∙ ap (λ t. ls ++ (part ++ t)) none ∙ ap (λ t. ls ++ t) (append-nil part ∙ v.lines ∙ ap (put_front ks) behind)
+            ∙ sym (append_assoc ls ks (drop (length ks) (drop (length ls) before))) ∙ ap (λ t. (ls ++ ks) ++ t) (drop-drop (length ks) (length ls) before ∙ ap (λ i. drop i before) (sym (length-append ls ks)));
+        counts = omega (arith, w.counts, v.counts, length-append ls ks);
+      }
 
--- one line
-pub put_one : (n : ℕ) (l : Line) (list : List Line) → n < length list → set list n l ≡ put_at n (l ∷ []) list
-put_one n l list h =
-    ap (λ t. set t n l) (sym (take-append-drop n list) ∙ ap (λ t. take n list ++ t) (drop_more list n l h))
-    ∙ set_at (take n list) _ (drop (n + 1) list) l n (length-take-le n list (omega arith))
-
-pub put_more : (n : ℕ) (ls : List Line) (l : Line) (list : List Line) → n + length ls < length list → set (put_at n ls list) (n + length ls) l ≡ put_at n (ls ++ l ∷ []) list
-put_more n ls l list h = put_one (n + length ls) l (put_at n ls list) (omega (arith, length_put n ls list (omega arith))) ∙ put_put n ls (l ∷ []) list (omega arith)
+  -- there is a place for k lines more
+  pub space : (k : ℕ) → length ls + k ≤ length before → k ≤ length (between n (length list) list)
+  space k l = omega (arith, l, ap length behind, length-drop (length ls) before)

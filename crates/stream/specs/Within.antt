@@ -1,12 +1,12 @@
 -- What the steps within a call make of a stream and of the lent list. Assumes nothing.
-use Rattle.std.specs.Prelude.{◌≡◌, ℕ, ◌+◌, ◌≤◌, Bool, true, false, not, ◌⊎◌, List, length, Some, None, vec_items, Option, nat_le}
+use Rattle.std.specs.Prelude.{◌≡◌, ℕ, Bool, true, false, not, ◌⊎◌, List, Some, None, vec_items, Option, nat_le}
 use Rattle.domain.specs.Meaning.{Meaning}
 use Rattle.release.specs.declared.Line.{Line}
 use Rattle.ledger.specs.KeptBoxes.{kept_of}
 use Rattle.rules.specs.Clusters.{size, members}
 use Rattle.rules.specs.States.{State, crowd, holding}
 use Rattle.rules.specs.Release.{Outcome}
-use Rattle.rules.specs.Runs.{serve_due, drain}
+use Rattle.rules.specs.Runs.{Served}
 use Rattle.rules.specs.Turn as turns
 use Rattle.stream.specs.declared.stream.Stream.{Stream}
 use Rattle.pool.specs.Tables.{label_at}
@@ -14,7 +14,7 @@ use Rattle.pool.specs.Changes.{are_two}
 use Rattle.stream.specs.declared.stream.turns.Merger.{Merger}
 use Rattle.stream.specs.declared.stream.turns.Rule.{Rule}
 use Rattle.stream.specs.declared.stream.turns.Rule.TheVariants.{Large, Covered, Outnumbered, TooFew, Joining}
-use Rattle.stream.specs.Writing.{put_at}
+use Rattle.stream.specs.Writing.{Writes}
 use Rattle.stream.specs.Views.{view, Stands}
 
 module _ {D : Type 0} where
@@ -28,11 +28,14 @@ module _ {D : Type 0} where
     pub state : view s ≡ x
     pub stands : Stands m s
 
-  -- the stream behind a rule, whose lines stand from place n of the list on; count is the place behind them
-  pub record Comes (m : Meaning) (o : Outcome) (n : ℕ) (before after : List Line) (count : ℕ) (s : Stream D) : Type 0 where
+  -- the stream behind a rule, whose lines begin the list; count tells how many
+  pub record Comes (m : Meaning) (o : Outcome) (before after : List Line) (count : ℕ) (s : Stream D) : Type 0 where
     pub holds : Holds m o.after s
-    pub lines : after ≡ put_at n o.lines before
-    pub counts : count ≡ n + length o.lines
+    pub writes : Writes o.lines before after count
+
+-- what turns write, and the state behind them
+abbrev pub outcome_of : Served → Outcome
+outcome_of o = record { lines = o.lines; after = o.after }
 
 -- the rule, in the words of the rules
 abbrev pub rule_of : Rule → turns.Rule
@@ -46,28 +49,17 @@ rule_of Joining = turns.joining
 abbrev pub Wanting : {D : Type 0} → Stream D → ℕ → Bool → Type 0
 Wanting s c b = nat_le (crowd s.settings (view s)) (size (members c (vec_items s.pool.held))) ≡ not b
 
+-- places of two clusters, of which c is the taker
+abbrev pub AreApart : {D : Type 0} → Stream D → ℕ → Merger → Type 0
+AreApart s c x = (are_two s.pool x.taker x.other ≡ true) × (label_at (vec_items s.pool.clusters) x.taker ≡ c)
+
 -- the next merger of cluster c: it names fewer than a crowd, and the other joins it most easily; none where there is no need,
 -- or no other
 abbrev pub NextMerger : {D : Type 0} → Meaning → Stream D → ℕ → Option Merger → Type 0
-NextMerger m s c (Some x) =
-    Wanting s c true × (are_two s.pool x.taker x.other ≡ true) × (label_at (vec_items s.pool.clusters) x.taker ≡ c) × (turns.easiest m c (vec_items s.pool.held) ≡ Some (label_at (vec_items s.pool.clusters) x.other))
+NextMerger m s c (Some x) = Wanting s c true × (turns.easiest m c (vec_items s.pool.held) ≡ Some (label_at (vec_items s.pool.clusters) x.other))
 NextMerger m s c None = Wanting s c false ⊎ (turns.easiest m c (vec_items s.pool.held) ≡ None)
 
 -- one round of taking over
 abbrev pub Round : {D : Type 0} → Meaning → ℕ → Bool → Stream D → Stream D → Type 0
 Round m c true s t = (d : ℕ) × Wanting s c true × (turns.easiest m c (vec_items s.pool.held) ≡ Some d) × Holds m (holding (view s) (turns.merged c d (vec_items s.pool.held))) t
 Round m c false s t = (Wanting s c false ⊎ (turns.easiest m c (vec_items s.pool.held) ≡ None)) × Holds m (view s) t
-
--- all that was held has had its turn, lowest position first; the lines begin the list, and count tells how many
-pub record Drained {D : Type 0} (m : Meaning) (s : Stream D) (before after : List Line) (count : ℕ) (t : Stream D) : Type 0 where
-  pub holds : Holds m (drain m s.settings (length (vec_items s.pool.held)) (view s)).after t
-  pub lines : after ≡ put_at 0 (drain m s.settings (length (vec_items s.pool.held)) (view s)).lines before
-  pub counts : count ≡ length (drain m s.settings (length (vec_items s.pool.held)) (view s)).lines
-  pub fits : count ≤ length before
-
--- the record that is due has had its turn; its lines begin the list, and count tells how many
-pub record Serves {D : Type 0} (m : Meaning) (s : Stream D) (before after : List Line) (count : ℕ) (t : Stream D) : Type 0 where
-  pub holds : Holds m (serve_due m s.settings (view s)).after t
-  pub lines : after ≡ put_at 0 (serve_due m s.settings (view s)).lines before
-  pub counts : count ≡ length (serve_due m s.settings (view s)).lines
-  pub fits : count ≤ length before

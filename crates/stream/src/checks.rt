@@ -44,10 +44,7 @@ pub(crate) fn unfit<D: Domain>(d: &D, fed: &Record) -> Option<u32>
     if fed.owner == 0 {
         return Some(1);
     }
-    for i in 0..d.width().min(PLACES) {
-        if !d.admits(i, fed.values[i]) {
-            return Some(i as u32 + 2);
-        }
-    }
-    None
+    (0..d.width().min(PLACES))
+        .find(|&i| !d.admits(i, fed.values[i]))
+        .map(|i| i as u32 + 2)
 }

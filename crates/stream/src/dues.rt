@@ -13,7 +13,7 @@ use rules::{Entry, Held};
 fn deadline(settings: &Settings, entry: &Entry) -> u64
     ensures { result ≡ states.deadline settings.now entry.now }
 {
-    entry.position as u64 + settings.delta as u64
+    u64::from(entry.position) + u64::from(settings.delta)
 }
 
 // The place of the held record whose deadline has come. Records stand by position, so none behind a later deadline is due.
@@ -21,14 +21,9 @@ pub(crate) fn due(held: &[Held], settings: &Settings, accepted: u32) -> Option<u
     ensures within { IfSome result (λ i. i < length held.now) }
     ensures first { (s : State) → s.held ≡ held.now → s.accepted ≡ accepted → ByPosition s.held → held_at s.held result ≡ head (filter (is_due settings.now s) s.held) }
 {
-    for (i, h) in held.iter().enumerate() {
-        let deadline = deadline(settings, &h.entry);
-        if deadline == accepted as u64 {
-            return Some(i);
-        }
-        if deadline > accepted as u64 {
-            return None;
-        }
-    }
-    None
+    let accepted = u64::from(accepted);
+    held.iter()
+        .map(|h| deadline(settings, &h.entry))
+        .take_while(|&deadline| deadline <= accepted)
+        .position(|deadline| deadline == accepted)
 }

@@ -4,12 +4,14 @@ ghost use Rattle.stream.specs.declared.faults.OpenFault.TheVariants.{Refused, Me
 
 use rules::OpenRefusal;
 use std::alloc::AllocError;
-use std::fmt;
+use thiserror::Error;
 
 // The domain or the settings were refused, or memory was wanting.
-#[derive(Debug, Clone, Copy, PartialEq, Eq)]
+#[derive(Debug, Clone, Copy, PartialEq, Eq, Error)]
 pub enum OpenFault {
+    #[error(transparent)]
     Refused(OpenRefusal),
+    #[error("there is no memory for the stream")]
     Memory,
 }
 
@@ -26,14 +28,5 @@ impl From<AllocError> for OpenFault {
 
     fn from(_error: AllocError) -> OpenFault {
         OpenFault::Memory
-    }
-}
-
-impl fmt::Display for OpenFault {
-    fn fmt<W: fmt::Write>(&self, f: &mut fmt::Formatter<W>) -> fmt::Result {
-        match self {
-            OpenFault::Refused(refusal) => write!(f, "{refusal}"),
-            OpenFault::Memory => write!(f, "there is no memory for the stream"),
-        }
     }
 }

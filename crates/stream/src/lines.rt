@@ -1,8 +1,8 @@
 // Lines on a lent list.
-ghost use Rattle.std.specs.Prelude.{◌≡◌, ◌+◌, ◌<◌, ◌≤◌, length, slice_set};
+ghost use Rattle.std.specs.Prelude.{◌≡◌, ◌≤◌, min, map, length, slice_set};
 ghost use Rattle.rules.specs.Release as release;
-ghost use Rattle.split.specs.Parted.{says, marked};
-ghost use Rattle.stream.specs.Writing.{Releases};
+ghost use Rattle.split.specs.Parted.{marked};
+ghost use Rattle.stream.specs.Writing.{released, Writes};
 
 use domain::{PLACES, Range};
 use release::{Line, Manner};
@@ -21,49 +21,36 @@ pub(crate) fn line_of(entry: &Entry, manner: Manner, number: u32, ranges: &[Rang
     }
 }
 
-// Puts the line at place `n`, if the list has such a place, and answers the place behind it.
-pub(crate) fn put(list: &mut [Line], n: usize, line: Line) -> usize
-    ensures list { list.new ≡ slice_set list.old n line }
-    ensures behind { n < length list.old → result ≡ n + 1 }
+// Puts the line at the list's front, if the list has a place, and answers how many lines it put.
+pub(crate) fn put(list: &mut [Line], line: Line) -> usize
+    ensures list { list.new ≡ slice_set list.old 0 line }
+    ensures count { result ≡ min 1 (length list.old) }
 {
-    if n < list.len() {
-        list[n] = line;
-        n + 1
-    } else {
-        n
-    }
+    let Some(first) = list.first_mut() else {
+        return 0;
+    };
+    *first = line;
+    1
 }
 
-fn says(mark: Option<usize>, part: usize) -> bool
-    ensures { result ≡ says part mark }
-{
-    match mark {
-        Some(place) => place == part,
-        None => false,
-    }
-}
-
-// Writes the records that are marked as of the part, as released in a box of that number and these ranges, from place
-// `from` on, and answers the place behind them.
+// Writes the records that are marked as of the part, as released in a box of that number and these ranges, at the
+// list's front, and answers how many.
 pub(crate) fn write_part(
     list: &mut [Line],
-    from: usize,
     held: &[Held],
     marks: &[Option<usize>],
     part: usize,
     number: u32,
     ranges: &[Range; PLACES],
 ) -> usize
-    ensures { length marks.now ≡ length held.now → from + length (marked part marks.now held.now) ≤ length list.old → Releases number ranges.now (marked part marks.now held.now) from list.old list.new result }
+    ensures written { length marks.now ≡ length held.now → length (marked part marks.now held.now) ≤ length list.old → Writes (map (released number ranges.now) (marked part marks.now held.now)) list.old list.new result }
+    ensures fits { result ≤ length list.old }
 {
-    let mut n = from;
-    for i in 0..held.len().min(marks.len()) {
-        if says(marks[i], part) {
-            n = put(
-                list,
-                n,
-                line_of(&held[i].entry, Manner::Released, number, ranges),
-            );
+    let mut n = 0;
+    for (h, mark) in held.iter().zip(marks) {
+        if *mark == Some(part) {
+            let line = line_of(&h.entry, Manner::Released, number, ranges);
+            n += put(&mut list[n..], line);
         }
     }
     n

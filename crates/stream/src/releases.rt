@@ -14,23 +14,23 @@ use release::Line;
 use rules::Held;
 use split::Part;
 
-// Each part in order of making gets the next box number, and its records are written from place `from` on. Answers the
-// place behind them.
+// Each part in order of making gets the next box number, and its records are written. The lines begin the list; the
+// answer tells how many.
 pub(crate) fn release_parts(
     ledger: &mut Ledger,
     parts: &[Part],
     marks: &[Option<usize>],
     held: &[Held],
     list: &mut [Line],
-    from: usize,
 ) -> usize
     ensures window { window_of ledger.new ≡ window_of ledger.old }
-    ensures out { (m : Meaning) (g : Settings) (k c : ℕ) → 1 ≤ k → Parted m k c held.now marks.now parts.now → g.mu ≡ window_of ledger.old → KeptWell m g.rho ledger.old → (ledger_boxes ledger.old).made + length parts.now ≤ 4294967295 → from + length (members c held.now) ≤ length list.old → PartsOut m g (split.parts m k (members c held.now)) ledger.old ledger.new from list.old list.new result }
+    ensures out { (m : Meaning) (g : Settings) (k c : ℕ) → 1 ≤ k → Parted m k c held.now marks.now parts.now → g.mu ≡ window_of ledger.old → KeptWell m g.rho ledger.old → (ledger_boxes ledger.old).made + length parts.now ≤ 4294967295 → length (members c held.now) ≤ length list.old → PartsOut m g (split.parts m k (members c held.now)) ledger.old ledger.new list.old list.new result }
+    ensures fits { result ≤ length list.old }
 {
-    let mut n = from;
+    let mut n = 0;
     for (j, part) in parts.iter().enumerate() {
         let number = ledger.enter(&part.bounds, part.loss);
-        n = write_part(list, n, held, marks, j, number, &part.bounds);
+        n += write_part(&mut list[n..], held, marks, j, number, &part.bounds);
     }
     n
 }

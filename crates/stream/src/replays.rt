@@ -47,10 +47,7 @@ fn make<D: Domain>(stream: &mut Stream<D>, call: Call, list: &mut [Line]) -> usi
     ensures terms { SameTerms stream.old stream.new }
     ensures made { (h : History) → Leads (D.meaning stream.old.domain) h stream.old → Made (D.meaning stream.old.domain) h (call_of (length list.old) call) list.new result stream.new }
 {
-    match answer(stream, call, list) {
-        Ok(n) => n,
-        Err(_) => 0,
-    }
+    answer(stream, call, list).unwrap_or(0)
 }
 
 // Makes the calls one after the other on a fresh stream, each with the list lent to it.
@@ -63,10 +60,7 @@ pub fn replay_calls<D: Domain + Drop>(
 ) -> Result<Replay<D>, OpenFault>
     ensures { Replays (D.meaning domain) settings calls.now (length list.old) result }
 {
-    let mut stream = match Stream::open(heap, domain, settings) {
-        Ok(stream) => stream,
-        Err(fault) => return Err(fault),
-    };
+    let mut stream = Stream::open(heap, domain, settings)?;
     let mut lines = Vec::new(heap);
     for call in calls {
         let n = make(&mut stream, *call, list);

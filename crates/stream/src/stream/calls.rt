@@ -2,10 +2,10 @@
 ghost use Rattle.std.specs.Prelude.{◌≡◌, ◌≤◌, false, length, is_ok, None};
 ghost use Rattle.rules.specs.Facts.{Between};
 ghost use Rattle.rules.specs.Refusals as refusals;
-ghost use Rattle.rules.specs.Runs.{History, feeding, closing};
+ghost use Rattle.rules.specs.Runs.{History, feeding, closing, serve_due};
 ghost use Rattle.stream.specs.Calls.{Opens, refusal_of, GoesOn};
 ghost use Rattle.stream.specs.Views.{view, Stands, Leads};
-ghost use Rattle.stream.specs.Within.{SameTerms, Serves};
+ghost use Rattle.stream.specs.Within.{SameTerms, Comes, outcome_of};
 
 use super::Stream;
 use crate::checks::{open_refusal, unfit};
@@ -58,10 +58,7 @@ impl<D: Domain> Stream<D> {
         } else if room <= self.pool.held.len() {
             Some(Refusal::ShortList)
         } else {
-            match unfit(&self.domain, fed) {
-                Some(column) => Some(Refusal::Unfit(column)),
-                None => None,
-            }
+            unfit(&self.domain, fed).map(Refusal::Unfit)
         }
     }
 
@@ -78,13 +75,14 @@ impl<D: Domain> Stream<D> {
         }
     }
 
-    // The held record whose deadline has come has its turn. Writes from the list's start, and answers how many lines.
+    // The held record whose deadline has come has its turn. Its lines begin the list; the answer tells how many.
     fn serve_due(&mut self, list: &mut [Line]) -> usize
         ensures terms { SameTerms self.old self.new }
-        ensures serves { refusals.open_refusal (D.meaning self.old.domain) self.old.settings ≡ None → Between (D.meaning self.old.domain) self.old.settings (view self.old) → Stands (D.meaning self.old.domain) self.old → length self.old.pool.held.items ≤ length list.old → Serves (D.meaning self.old.domain) self.old list.old list.new result self.new }
+        ensures serves { refusals.open_refusal (D.meaning self.old.domain) self.old.settings ≡ None → Between (D.meaning self.old.domain) self.old.settings (view self.old) → Stands (D.meaning self.old.domain) self.old → length self.old.pool.held.items ≤ length list.old → Comes (D.meaning self.old.domain) (outcome_of (serve_due (D.meaning self.old.domain) self.old.settings (view self.old))) list.old list.new result self.new }
+        ensures fits { result ≤ length list.old }
     {
         match due(self.pool.held.as_slice(), &self.settings, self.accepted) {
-            Some(at) => self.turn(at, list, 0),
+            Some(at) => self.turn(at, list),
             None => 0,
         }
     }

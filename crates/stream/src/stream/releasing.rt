@@ -15,13 +15,15 @@ use domain::Domain;
 use release::Line;
 
 impl<D: Domain> Stream<D> {
-    // The records of the cluster are written part by part, from place `n` on, and it closes. Answers the place behind them.
-    pub(crate) fn release(&mut self, label: u32, list: &mut [Line], n: usize) -> usize
+    // The records of the cluster are written part by part, and it closes. The lines begin the list; the answer tells how
+    // many.
+    pub(crate) fn release(&mut self, label: u32, list: &mut [Line]) -> usize
         ensures terms { SameTerms self.old self.new }
-        ensures comes { open_refusal (D.meaning self.old.domain) self.old.settings ≡ None → Between (D.meaning self.old.domain) self.old.settings (view self.old) → Stands (D.meaning self.old.domain) self.old → In (clustering.clusters self.old.pool.held.items) label → self.old.settings.k ≤ clustering.size (clustering.members label self.old.pool.held.items) → n + length self.old.pool.held.items ≤ length list.old → Comes (D.meaning self.old.domain) (releases.release (D.meaning self.old.domain) self.old.settings (view self.old) label) n list.old list.new result self.new }
+        ensures comes { open_refusal (D.meaning self.old.domain) self.old.settings ≡ None → Between (D.meaning self.old.domain) self.old.settings (view self.old) → Stands (D.meaning self.old.domain) self.old → In (clustering.clusters self.old.pool.held.items) label → self.old.settings.k ≤ clustering.size (clustering.members label self.old.pool.held.items) → length self.old.pool.held.items ≤ length list.old → Comes (D.meaning self.old.domain) (releases.release (D.meaning self.old.domain) self.old.settings (view self.old) label) list.old list.new result self.new }
+        ensures fits { result ≤ length list.old }
     {
         let Some(at) = find(self.pool.clusters.as_slice(), label) else {
-            return n;
+            return 0;
         };
         let cluster = self.pool.clusters[at];
         self.splitter.part(
@@ -30,15 +32,14 @@ impl<D: Domain> Stream<D> {
             &cluster,
             self.settings.k,
         );
-        let behind = release_parts(
+        let n = release_parts(
             &mut self.ledger,
             self.splitter.parts(),
             self.splitter.marks(),
             self.pool.held.as_slice(),
             list,
-            n,
         );
         self.pool.close_cluster(label);
-        behind
+        n
     }
 }

@@ -1,5 +1,5 @@
 // A record's turn.
-ghost use Rattle.std.specs.Prelude.{◌≡◌, ℕ, ◌+◌, ◌<◌, ◌≤◌, List, length, Some, None, vec_len, slice_index_or};
+ghost use Rattle.std.specs.Prelude.{◌≡◌, ℕ, ◌<◌, ◌≤◌, true, List, length, IfSome, Some, None, vec_len, slice_index_or};
 ghost use Rattle.std.specs.List.{AllByRecursion};
 ghost use Rattle.rules.specs.declared.Held.{Held};
 ghost use Rattle.rules.specs.Around.{Fit};
@@ -11,7 +11,7 @@ ghost use Rattle.rules.specs.States as states;
 ghost use Rattle.rules.specs.Turn as turns;
 ghost use Rattle.stream.specs.Places.{held_at};
 ghost use Rattle.stream.specs.Views.{view, Stands};
-ghost use Rattle.stream.specs.Within.{SameTerms, Holds, Comes, NextMerger, Round, rule_of};
+ghost use Rattle.stream.specs.Within.{SameTerms, Holds, Comes, AreApart, NextMerger, Round, rule_of};
 
 use super::Stream;
 use crate::lines::line_of;
@@ -49,10 +49,8 @@ impl<D: Domain> Stream<D> {
     fn size_of(&self, label: u32) -> usize
         ensures { Stands (D.meaning self.now.domain) self.now → result ≡ clustering.size (clustering.members label self.now.pool.held.items) }
     {
-        match find(self.pool.clusters.as_slice(), label) {
-            Some(at) => self.pool.clusters[at].size,
-            None => 0,
-        }
+        let clusters = self.pool.clusters.as_slice();
+        find(clusters, label).map_or(0, |at| clusters[at].size)
     }
 
     // Whether more than half of the open clusters have more owners than the record's, which has `size`.
@@ -86,65 +84,58 @@ impl<D: Domain> Stream<D> {
 
     // The next merger of a cluster that names fewer than a crowd.
     fn next_merger(&self, label: u32) -> Option<Merger>
-        ensures { Stands (D.meaning self.now.domain) self.now → AllByRecursion (λ h. Fit (D.meaning self.now.domain) h.entry) self.now.pool.held.items → In (clustering.clusters self.now.pool.held.items) label → NextMerger (D.meaning self.now.domain) self.now label result }
+        ensures apart { IfSome result (AreApart self.now label) }
+        ensures next { Stands (D.meaning self.now.domain) self.now → AllByRecursion (λ h. Fit (D.meaning self.now.domain) h.entry) self.now.pool.held.items → In (clustering.clusters self.now.pool.held.items) label → NextMerger (D.meaning self.now.domain) self.now label result }
     {
         if self.size_of(label) >= self.crowd() {
             return None;
         }
         let clusters = self.pool.clusters.as_slice();
-        let Some(taker) = find(clusters, label) else {
-            return None;
-        };
-        match easiest(&self.domain, clusters, taker) {
-            Some(other) => Some(Merger { taker, other }),
-            None => None,
-        }
+        let taker = find(clusters, label)?;
+        let other = easiest(&self.domain, clusters, taker)?;
+        Some(Merger { taker, other })
     }
 
-    // One round of taking over: whether there was a merger.
+    // One round of taking over: whether there was a merger, which closes a cluster.
     fn take_over(&mut self, label: u32) -> bool
+        ensures closes { result ≡ true → vec_len self.new.pool.clusters < vec_len self.old.pool.clusters }
         ensures terms { SameTerms self.old self.new }
         ensures round { Stands (D.meaning self.old.domain) self.old → AllByRecursion (λ h. Fit (D.meaning self.old.domain) h.entry) self.old.pool.held.items → In (clustering.clusters self.old.pool.held.items) label → Round (D.meaning self.old.domain) label result self.old self.new }
     {
-        match self.next_merger(label) {
-            Some(merger) => {
-                self.pool.merge(&self.domain, merger.taker, merger.other);
-                true
-            }
-            None => false,
-        }
+        let Some(merger) = self.next_merger(label) else {
+            return false;
+        };
+        self.pool.merge(&self.domain, merger.taker, merger.other);
+        true
     }
 
-    // Takes over clusters until the cluster names a crowd. Each round closes one, so as many rounds as records are enough.
+    // Takes over clusters until the cluster names a crowd, or no other is open.
     fn grow(&mut self, label: u32)
         ensures terms { SameTerms self.old self.new }
         ensures grown { Stands (D.meaning self.old.domain) self.old → AllByRecursion (λ h. Fit (D.meaning self.old.domain) h.entry) self.old.pool.held.items → In (clustering.clusters self.old.pool.held.items) label → Holds (D.meaning self.old.domain) (turns.grown (D.meaning self.old.domain) self.old.settings (view self.old) label) self.new }
     {
-        for _ in 0..self.pool.held.len() {
-            if !self.take_over(label) {
-                break;
-            }
-        }
+        while self.take_over(label) {}
     }
 
-    // The record at place `at` has its turn: the first rule that fits is applied, and its lines are written from place `n`
-    // on. Answers the place behind them.
-    pub(crate) fn turn(&mut self, at: usize, list: &mut [Line], n: usize) -> usize
+    // The record at place `at` has its turn: the first rule that fits is applied. Its lines begin the list; the answer
+    // tells how many.
+    pub(crate) fn turn(&mut self, at: usize, list: &mut [Line]) -> usize
         requires { at < vec_len self.old.pool.held }
         ensures terms { SameTerms self.old self.new }
-        ensures comes { (t : Held) → slice_index_or self.old.pool.held.items at t ≡ t → open_refusal (D.meaning self.old.domain) self.old.settings ≡ None → Between (D.meaning self.old.domain) self.old.settings (view self.old) → Stands (D.meaning self.old.domain) self.old → n + length self.old.pool.held.items ≤ length list.old → Comes (D.meaning self.old.domain) (turns.turn (D.meaning self.old.domain) self.old.settings (view self.old) t) n list.old list.new result self.new }
+        ensures comes { (t : Held) → slice_index_or self.old.pool.held.items at t ≡ t → open_refusal (D.meaning self.old.domain) self.old.settings ≡ None → Between (D.meaning self.old.domain) self.old.settings (view self.old) → Stands (D.meaning self.old.domain) self.old → length self.old.pool.held.items ≤ length list.old → Comes (D.meaning self.old.domain) (turns.turn (D.meaning self.old.domain) self.old.settings (view self.old) t) list.old list.new result self.new }
+        ensures fits { result ≤ length list.old }
     {
         let turn = self.pool.held[at];
         match self.rule(&turn) {
-            Rule::Large => self.release(turn.label, list, n),
+            Rule::Large => self.release(turn.label, list),
             Rule::Covered(cover) => {
                 let line = line_of(&turn.entry, Manner::Reused, cover.number, &cover.ranges);
-                self.write_off(at, line, list, n)
+                self.write_off(at, line, list)
             }
-            Rule::Outnumbered | Rule::TooFew => self.suppress(at, &turn.entry, list, n),
+            Rule::Outnumbered | Rule::TooFew => self.suppress(at, &turn.entry, list),
             Rule::Joining => {
                 self.grow(turn.label);
-                self.release(turn.label, list, n)
+                self.release(turn.label, list)
             }
         }
     }

@@ -1,42 +1,21 @@
-use Rattle.std.proofs.Common.{◌≡◌, ◌<◌, take, drop, None, filter, sym, ◌∙◌, subst, arith}
-use Rattle.std.proofs.lemmas.List.{take_all}
-use Rattle.std.proofs.ByRecursion.{All-more}
-use Rattle.rules.specs.Choosing.{head}
-use Rattle.rules.specs.Facts.{ByPosition}
-use Rattle.rules.specs.States.{deadline, is_due}
-use Rattle.stream.proofs.Deadlines.{Early, due_here, none_due, later}
+use Rattle.std.proofs.Common.{◌≡◌, ◌<◌, eqb, leb, length, IfSome, sym, ap, ◌∙◌, subst, rules, tests}
+use Rattle.std.proofs.lemmas.Iterator.{YieldsList-from_slice, YieldsList-from_map}
+use Rattle.std.proofs.lemmas.Iterator.Consumers.{YieldsList-at}
+use Rattle.std.proofs.lemmas.Iterator.Search.{position_from_yields_List, YieldsList-from_take_while}
+use Rattle.rules.specs.States.{deadline}
+use Rattle.stream.specs.Places.{held_at}
+use Rattle.stream.proofs.Deadlines.{due_in, due_found, due_within}
 use Rattle.stream.proofs.dues.due.Goals as goal
 
-pub returns-then-deadline-accepted : goal.returns-then-deadline-accepted
-returns-then-deadline-accepted c = record {
-  within = c.loop-i-test.true;
-  first = λ s e f b.
-      let g = c.args.settings.now in
-      subst (λ hs. head (drop c.loop-i.i hs) ≡ head (filter (is_due g s) hs)) (sym e)
-      (due_here g s c.loop-i.i c.args.held.now _ (subst (λ n. Early g n (take c.loop-i.i c.args.held.now)) (sym f) c.loop-i.invariant) c.loop-i-test.true (sym c.deadline-deadline.ensures ∙ c.if-deadline-accepted.true ∙ sym f));
-}
-
-pub returns-then-deadline-accepted-2 : goal.returns-then-deadline-accepted-2
-returns-then-deadline-accepted-2 c = record {
-  within = tt;
-  first = λ s e f b.
-      let g = c.args.settings.now in
-      subst (λ hs. None ≡ head (filter (is_due g s) hs)) (sym e)
-      (later g s c.loop-i.i c.args.held.now _ (subst ByPosition e b) (subst (λ n. Early g n (take c.loop-i.i c.args.held.now)) (sym f) c.loop-i.invariant) c.loop-i-test.true c.deadline-deadline.result c.deadline-deadline.ensures (omega (arith, f)));
-}
-
-pub loop-i-preserved : goal.loop-i-preserved
-loop-i-preserved c =
-    let g = c.args.settings.now in
-    let below : c.deadline-deadline.result < c.args.accepted = omega arith in
-    All-more (λ h. deadline g h.entry < c.args.accepted) c.args.held.now c.loop-i.i _ c.loop-i-test.true c.loop-i.invariant (subst (λ n. n < c.args.accepted) c.deadline-deadline.ensures below)
-
 pub returns : goal.returns
-returns c = record {
-  within = tt;
-  first = λ s e f b.
-      let g = c.args.settings.now in
-      let hs = c.args.held.now in
-      subst (λ hs. None ≡ head (filter (is_due g s) hs)) (sym e)
-      (none_due g s hs (subst (Early g s.accepted) (take_all c.loop-i.i hs c.loop-i-test.false) (subst (λ n. Early g n (take c.loop-i.i hs)) (sym f) c.loop-i.invariant)));
-}
+returns c =
+    let n = c.args.accepted in
+    let g = c.args.settings.now in
+    let hs = c.args.held.now in
+    let at : c.position.result ≡ due_in g n hs = position_from_yields_List (λ d. eqb d n) _ _ c.position.result c.position.ensures.ran
+    (YieldsList-from_take_while _ (λ d. leb d n) (YieldsList-at c.take_while.ensures.source (YieldsList-from_map _ (λ h. deadline g h.entry) (YieldsList-at c.map.ensures.source (YieldsList-from_slice hs cc)) c.map.ensures.closure (λ x r q k. search rules))) c.take_while.ensures.closure c.take_while.ensures.done (λ x b q k. search (rules, tests)))
+    (λ x b q k. search (rules, tests)) in
+    record {
+      within = subst (λ o. IfSome o (λ i. i < length hs)) (sym at) (due_within g n hs);
+      first = λ s e f b. ap (held_at s.held) (at ∙ ap (due_in g n) (sym e)) ∙ due_found g n s f s.held b;
+    }

@@ -1,31 +1,38 @@
-use Rattle.std.proofs.Common.{sym, refl, ◌∙◌}
-use Rattle.stream.proofs.Outputs.{Given, out_none, priced, low, space, out_more, out_all}
+use Rattle.std.proofs.Common.{◌≤◌, length, sym, refl, ◌∙◌, arith}
+use Rattle.std.proofs.lemmas.List.Edits.{length-between}
+use Rattle.stream.proofs.Outputs.{Given, out_none, priced, low, enough, out_more, out_all}
 use Rattle.stream.proofs.releases.release_parts.Goals as goal
 
 pub loop-j-init : goal.loop-j-init
-loop-j-init c = (refl, λ m g k d given. out_none given)
+loop-j-init c = record { window = refl; out = λ m g k d given. out_none given; fits = omega arith }
 
 pub loop-j-preserved : goal.loop-j-preserved
 loop-j-preserved c =
     let inv = c.loop-j.invariant in
     let j = c.loop-j.j in
     let l = c.loop-j-test.true in
-    let entered = c.enter-number.ensures in (
-      entered.window ∙ inv.0,
-      λ m g k d given.
-          let out = inv.1 m g k d given in
-          let loss = priced given j l c.loop-j.ledger c.loop-j.list c.loop-j.n out _ in
-          let e = entered.entered m g (given.window ∙ sym inv.0) out.kept loss (low given j l c.loop-j.ledger c.loop-j.list c.loop-j.n out) in
-          let w = c.write_part-n.ensures given.parted.long (space given j l c.loop-j.ledger c.loop-j.list c.loop-j.n out) in
-          out_more given j l c.loop-j.ledger c.loop-j.list c.loop-j.n out _ c.enter-number.new.self c.write_part-n.new.list c.enter-number.result c.write_part-n.result e entered.counted w,
-    )
+    let now = c.loop-j.list in
+    let n = c.loop-j.n in
+    let room : n ≤ length now = omega arith in
+    let entered = c.enter-number.ensures in
+    record {
+      window = entered.window ∙ inv.window;
+      out = λ m g k d given.
+          let out = inv.out m g k d given in
+          let loss = priced given j l c.loop-j.ledger now n room out _ in
+          let e = entered.entered m g (given.window ∙ sym inv.window) out.kept loss (low given j l c.loop-j.ledger now n room out) in
+          let w = c.write_part-n.ensures.written given.parted.long (enough given j l c.loop-j.ledger now n room out) in
+          out_more given j l c.loop-j.ledger now n room out _ c.enter-number.new.self c.write_part-n.new.list c.enter-number.result c.write_part-n.result e entered.counted w;
+      fits = omega (arith, c.write_part-n.ensures.fits, length-between now n (length now));
+    }
 
 pub returns : goal.returns
 returns c =
     let inv = c.loop-j.invariant in
     record {
-      window = inv.0;
+      window = inv.window;
       out = λ m g k d crowd parted window kept numbers room.
-          let given : Given m g k d c.args.held.now c.args.marks.now c.args.parts.now c.args.ledger.now c.args.from c.args.list.now = record { crowd = crowd; parted = parted; window = window; kept = kept; numbers = numbers; room = room } in
-          out_all given c.loop-j.j c.loop-j.ledger c.loop-j.list c.loop-j.n c.loop-j-test.false (inv.1 m g k d given);
+          let given : Given m g k d c.args.held.now c.args.marks.now c.args.parts.now c.args.ledger.now c.args.list.now = record { crowd = crowd; parted = parted; window = window; kept = kept; numbers = numbers; room = room } in
+          out_all given c.loop-j.j c.loop-j.ledger c.loop-j.list c.loop-j.n c.loop-j-test.false (inv.out m g k d given);
+      fits = inv.fits;
     }

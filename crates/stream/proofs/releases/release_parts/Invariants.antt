@@ -1,4 +1,4 @@
-use Rattle.std.proofs.Common.{◌≡◌, ℕ, take}
+use Rattle.std.proofs.Common.{◌≡◌, ℕ, ◌≤◌, length, take}
 use Rattle.domain.specs.Meaning.{Meaning}
 use Rattle.release.specs.declared.Settings.{Settings}
 use Rattle.ledger.specs.Ledgers.{window_of}
@@ -9,6 +9,8 @@ use Rattle.stream.proofs.Outputs.{Given}
 use Rattle.stream.proofs.releases.release_parts.Given as goal
 
 abbrev pub invariant-loop-j : goal.invariant-loop-j
-invariant-loop-j l =
-    (window_of l.ledger ≡ window_of l.initial.ledger)
-    × ((m : Meaning) (g : Settings) (k c : ℕ) → Given m g k c l.held l.marks l.parts l.initial.ledger l.from l.initial.list → PartsOut m g (take l.j (parts m k (members c l.held))) l.initial.ledger l.ledger l.from l.initial.list l.list l.n)
+invariant-loop-j l = record {
+  window : window_of l.ledger ≡ window_of l.initial.ledger;
+  out : (m : Meaning) (g : Settings) (k c : ℕ) → Given m g k c l.held l.marks l.parts l.initial.ledger l.initial.list → PartsOut m g (take l.j (parts m k (members c l.held))) l.initial.ledger l.ledger l.initial.list l.list l.n;
+  fits : l.n ≤ length l.initial.list;
+}

@@ -19,8 +19,8 @@ shape_of-list-in_err-extend_from_slice g c = c.make-n.auto.list ∙ c.loop-call.
 
 pub returns-in_err-extend_from_slice : goal.returns-in_err-extend_from_slice
 returns-in_err-extend_from_slice g c =
-    let p = err_from_is_err_and c.from_residual.result c.from_residual.ensures.1 in
-    let opened = c.in-Ok.ensures in
+    let p = err_from_is_err_and c.from_residual-in_err-extend_from_slice.result c.from_residual-in_err-extend_from_slice.ensures.1 in
+    let opened = c.in_ok-stream.ensures in
     rw (p.1, p.2) (subst (λ x. open_refusal (g.D.Domain.meaning c.args.domain) x ≡ None) opened.settings (run_open opened.leads.run))
 
 pub loop-call-preserved : goal.loop-call-preserved
@@ -29,7 +29,7 @@ loop-call-preserved g c =
     let s = c.loop-call.stream in
     let t = c.make-n.new.stream in
     let terms = c.make-n.ensures.terms in
-    let start = c.in-Ok.stream in
+    let start = c.in_ok-stream.stream in
     let m = g.D.Domain.meaning start.domain in
     let room : length c.loop-call.list ≡ length c.args.list.now = inv.1 in
     let made = subst (λ r. (h : History) → Leads (g.D.Domain.meaning s.domain) h s → Made (g.D.Domain.meaning s.domain) h (call_of r (get_or c.args.calls.now c.loop-call.call-index no_call)) c.make-n.new.list c.make-n.result t) room c.make-n.ensures.made in
@@ -46,10 +46,10 @@ shape_of-list g c = c.loop-call.invariant.1
 
 pub returns : goal.returns
 returns g c =
-    let opened = c.in-Ok.ensures in
+    let opened = c.in_ok-stream.ensures in
     let inv = c.loop-call.invariant in
     let m = g.D.Domain.meaning c.args.domain in
-    let start = c.in-Ok.stream in
+    let start = c.in_ok-stream.stream in
     let played = subst (λ d. Plays (g.D.Domain.meaning d) start.settings c.args.calls.now (length c.args.list.now) c.loop-call.call-index c.loop-call.stream (vec_items c.loop-call.lines)) opened.domain inv.2 in
     let told = subst (λ x. Plays m x c.args.calls.now (length c.args.list.now) c.loop-call.call-index c.loop-call.stream (vec_items c.loop-call.lines)) opened.settings played in
     plays_all m c.args.settings c.args.calls.now (length c.args.list.now) c.loop-call.call-index (record { stream = c.loop-call.stream; lines = c.loop-call.lines }) c.loop-call-test.false told

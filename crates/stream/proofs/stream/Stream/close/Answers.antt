@@ -23,6 +23,6 @@ returns g c =
       terms = record { domain = terms.domain; settings = terms.settings };
       goes_on = λ h leads.
           let kept = leads.stands in
-          closed_goes m s h leads c.args.list.now c.drain.new.list c.drain.result c.drain.new.self _ refl refl terms.settings (sym c.in_default.ensures)
+          closed_goes m s h leads c.args.list.now c.drain.new.list c.drain.result c.drain.ensures.fits c.drain.new.self _ refl refl terms.settings (sym c.in_default.ensures)
           (record { table = kept.table; kept = kept.kept; window = kept.window; room = kept.room }) c.drain.ensures.drained;
     }

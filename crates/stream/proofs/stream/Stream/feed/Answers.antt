@@ -25,6 +25,6 @@ returns g c =
       terms = record { domain = terms'.domain ∙ terms.domain; settings = terms'.settings ∙ terms.settings };
       goes_on = λ h leads.
           let none = sym c.in_default.ensures in
-          fed_goes m s h leads c.args.list.now c.serve_due.new.list c.serve_due.result c.serve_due.new.self c.args.fed (g.D.Domain.meaning s'.domain) s' none (ap g.D.Domain.meaning terms.domain) terms terms'
+          fed_goes m s h leads c.args.list.now c.serve_due.new.list c.serve_due.result c.serve_due.ensures.fits c.serve_due.new.self c.args.fed (g.D.Domain.meaning s'.domain) s' none (ap g.D.Domain.meaning terms.domain) terms terms'
           (c.arrive.ensures.arrives h (length c.args.list.now) leads none) c.serve_due.ensures.serves;
     }

@@ -26,6 +26,7 @@ returns-in_default g c = record {
       let hs = vec_items s.pool.held in
       let r = (clusters_law hs).some_held c.args.label is_open in
       absurd (false≢true (c.in_default.ensures.held m hs r.0 (c.as_slice.ensures.value ∙ stands.table) r.1 r.2));
+  fits = omega arith;
 }
 
 pub returns : goal.returns
@@ -54,20 +55,20 @@ returns g c = record {
       let own_members : es ≡ members label hs = ap (members label) third in
       let few : length c.parts.result.now ≤ length es = omega (arith, ap length parted.told, length-map (parts m k es) (part_of m), few_parts m k es (omega (arith, limits.crowd)) (subst (λ ys. k ≤ size ys) (sym own_members) large)) in
       let fewer : length es ≤ length hs = omega (arith, ap length own_members, members_le label hs) in
-      let out = c.release_parts-behind.ensures.out m s.settings k label (omega (arith, limits.crowd)) parted (sym stands.window) stands.kept (omega (arith, few, fewer, between.numbers, limits.most_delay)) (omega (arith, fewer, room)) in
-      let shown = subst (λ ys. PartsOut m s.settings (parts m k ys) s.ledger c.release_parts-behind.new.ledger c.args.n c.args.list.now c.release_parts-behind.new.list c.release_parts-behind.result) own_members out in
+      let out = c.release_parts-n.ensures.out m s.settings k label (omega (arith, limits.crowd)) parted (sym stands.window) stands.kept (omega (arith, few, fewer, between.numbers, limits.most_delay)) (omega (arith, fewer, room)) in
+      let shown = subst (λ ys. PartsOut m s.settings (parts m k ys) s.ledger c.release_parts-n.new.ledger c.args.list.now c.release_parts-n.new.list c.release_parts-n.result) own_members out in
       record {
         holds = record {
-          state = ap (λ ys. record { held = ys; boxes = ledger_boxes c.release_parts-behind.new.ledger; accepted = s.accepted; suppressed = s.suppressed; closed = s.closed }) c.close_cluster.ensures.held
+          state = ap (λ ys. record { held = ys; boxes = ledger_boxes c.release_parts-n.new.ledger; accepted = s.accepted; suppressed = s.suppressed; closed = s.closed }) c.close_cluster.ensures.held
               ∙ ap (λ b. record { held = others label hs; boxes = b; accepted = s.accepted; suppressed = s.suppressed; closed = s.closed }) shown.boxes;
           stands = record {
             table = c.close_cluster.ensures.faithful m stands.table;
             kept = shown.kept;
-            window = c.release_parts-behind.ensures.window ∙ stands.window;
+            window = c.release_parts-n.ensures.window ∙ stands.window;
             room = roomy_after s.pool c.close_cluster.new.self c.close_cluster.ensures.memory stands.room;
           };
         };
-        lines = shown.lines;
-        counts = shown.counts;
+        writes = shown.writes;
       };
+  fits = c.release_parts-n.ensures.fits;
 }

@@ -18,8 +18,9 @@ returns-in-Large g c = record {
       let x : Held = c.index.result.now in
       let l : c.args.at < length hs = omega (arith, s.pool.held.ok.0) in
       let same = same_read hs c.args.at x t l c.index.ensures is in
-      subst (λ y. Comes m (turns.turn m s.settings (view s) y) c.args.n c.args.list.now c.release.new.list c.release.result c.release.new.self) same
-      (large_turn m s x (in_place hs c.args.at x l (sym c.index.ensures)) taken between stands c.args.n c.args.list.now room c.release.new.list c.release.result c.release.new.self (c.in-Large.ensures stands) c.release.ensures.comes);
+      subst (λ y. Comes m (turns.turn m s.settings (view s) y) c.args.list.now c.release.new.list c.release.result c.release.new.self) same
+      (large_turn m s x (in_place hs c.args.at x l (sym c.index.ensures)) taken between stands c.args.list.now room c.release.new.list c.release.result c.release.new.self (c.in-Large.ensures stands) c.release.ensures.comes);
+  fits = c.release.ensures.fits;
 }
 
 pub returns-in-Outnumbered : goal.returns-in-Outnumbered
@@ -35,9 +36,10 @@ returns-in-Outnumbered g c = record {
       let limits = lawful m s.settings taken in
       let which = ⊎_elim (λ e. inl (ap rule_of e)) (λ e. inr (ap rule_of e)) c.in-Outnumbered.is in
       let gone = c.suppress.ensures.comes x refl (sym c.index.ensures) (omega (arith, l, s.pool.held.ok.0)) (omega (arith, l, room)) (omega (arith, between.few_suppressed, limits.most_delay)) between.by_position stands in
-      subst (λ y. Comes m (turns.turn m s.settings (view s) y) c.args.n c.args.list.now c.suppress.new.list c.suppress.result c.suppress.new.self) same
-      (subst (λ o. Comes m o c.args.n c.args.list.now c.suppress.new.list c.suppress.result c.suppress.new.self)
-      (suppressed_turn m s x (in_place hs c.args.at x l (sym c.index.ensures)) taken between stands c.args.n c.args.list.now room (rule_of c.rule.result) (c.rule.ensures stands) which) gone);
+      subst (λ y. Comes m (turns.turn m s.settings (view s) y) c.args.list.now c.suppress.new.list c.suppress.result c.suppress.new.self) same
+      (subst (λ o. Comes m o c.args.list.now c.suppress.new.list c.suppress.result c.suppress.new.self)
+      (suppressed_turn m s x (in_place hs c.args.at x l (sym c.index.ensures)) taken between stands c.args.list.now room (rule_of c.rule.result) (c.rule.ensures stands) which) gone);
+  fits = c.suppress.ensures.fits;
 }
 
 pub returns-in-Joining : goal.returns-in-Joining
@@ -53,7 +55,8 @@ returns-in-Joining g c = record {
       let same = same_read hs c.args.at x t l c.index.ensures is in
       let i = in_place hs c.args.at x l (sym c.index.ensures) in
       let grown = c.grow.ensures.grown stands between.fit (is_open x.label hs x i refl) in
-      subst (λ y. Comes m (turns.turn m s.settings (view s) y) c.args.n c.args.list.now c.release-in-Joining.new.list c.release-in-Joining.result c.release-in-Joining.new.self) same
-      (joining_turn m s x i taken between stands c.args.n c.args.list.now room (g.D.Domain.meaning s'.domain) s' c.release-in-Joining.new.self c.release-in-Joining.new.list c.release-in-Joining.result
+      subst (λ y. Comes m (turns.turn m s.settings (view s) y) c.args.list.now c.release-in-Joining.new.list c.release-in-Joining.result c.release-in-Joining.new.self) same
+      (joining_turn m s x i taken between stands c.args.list.now room (g.D.Domain.meaning s'.domain) s' c.release-in-Joining.new.self c.release-in-Joining.new.list c.release-in-Joining.result
       (c.in-Joining.ensures stands) (ap g.D.Domain.meaning c.grow.ensures.terms.domain) c.grow.ensures.terms grown c.release-in-Joining.ensures.comes);
+  fits = c.release-in-Joining.ensures.fits;
 }

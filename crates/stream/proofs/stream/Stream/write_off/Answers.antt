@@ -5,7 +5,7 @@ use Rattle.rules.specs.States.{holding}
 use Rattle.rules.proofs.Between.{removed_without}
 use Rattle.stream.specs.Views.{view}
 use Rattle.stream.proofs.Arriving.{roomy_after}
-use Rattle.stream.proofs.Writing.{put_one}
+use Rattle.stream.proofs.Writing.{writes_one}
 use Rattle.stream.proofs.stream.Stream.write_off.Goals as goal
 
 pub returns : goal.returns
@@ -22,7 +22,7 @@ returns g c = record {
           state = ap (holding (view s)) gone;
           stands = record { table = c.leave.ensures.faithful stands.table; kept = stands.kept; window = stands.window; room = roomy_after s.pool c.leave.new.self c.leave.ensures.memory stands.room };
         };
-        lines = c.put.ensures.list ∙ put_one c.args.n c.args.line c.args.list.now room;
-        counts = c.put.ensures.behind room;
+        writes = writes_one c.args.line c.args.list.now c.put.new.list c.put.result room c.put.ensures.list c.put.ensures.count;
       };
+  fits = omega (arith, c.put.ensures.count);
 }
