@@ -1,2 +1,4 @@
 pub mod Lines
 pub mod Crowds
+pub mod Books
+pub mod Audits
