@@ -6,6 +6,7 @@ use Rattle.domain.specs.declared.range.Range.{Range}
 use Rattle.release.specs.declared.Line.{Line}
 use Rattle.release.specs.declared.Manner.{Manner}
 use Rattle.release.specs.declared.Manner.TheVariants.{Released, Reused, Suppressed}
+use Rattle.release.specs.declared.Record.{Record}
 use Rattle.release.specs.declared.Settings.{Settings}
 use Rattle.release.specs.Manners.{manner_number}
 use Rattle.audit.specs.declared.book.Moment.{Moment}
@@ -34,6 +35,10 @@ same_manner a b = manner_number a == manner_number b
 
 abbrev pub same_range : Range → Range → Bool
 same_range a b = a.low == b.low && a.high == b.high
+
+-- a record that was accepted stands behind the others, not written yet
+abbrev pub accepted : Record → Seen → Seen
+accepted fed seen = record seen { entries = seen.entries ++ ((record { fed = fed; written = None }) ∷ []) }
 
 -- ---- what is wrong with a line
 

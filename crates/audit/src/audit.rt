@@ -1,7 +1,9 @@
 // A run of a stream over a workload, audited from what was fed and what was written.
-ghost use Rattle.std.specs.Prelude.{◌≡◌, fold, OnOk};
+ghost use Rattle.std.specs.Prelude.{◌≡◌, fold, IfOk, OnOk};
+ghost use Rattle.domain.specs.Meaning.{width_of};
 ghost use Rattle.audit.specs.Audits as audits;
 ghost use Rattle.audit.specs.Books as books;
+ghost use Rattle.audit.specs.Runs as runs;
 
 use crate::book::{Book, Moment};
 use crate::wrong::{Breach, Wrong};
@@ -129,7 +131,9 @@ fn feed<D: Domain + Drop>(
     fed: Record,
     list: &mut [Line],
     audit: &mut Audit,
-) -> anyhow::Result<()> {
+) -> anyhow::Result<()>
+    ensures { OnOk result (runs.IsFed fed audit.old audit.new) }
+{
     let n = stream
         .feed(fed, list)
         .map_err(|_| anyhow!("a record was refused"))?;
@@ -143,7 +147,9 @@ fn feed_all<D: Domain + Drop>(
     workload: Workload,
     list: &mut [Line],
     audit: &mut Audit,
-) -> anyhow::Result<()> {
+) -> anyhow::Result<()>
+    ensures { OnOk result (runs.IsRun workload audit.old audit.new) }
+{
     let mut source = Source::new();
     for p in 0..RECORDS {
         feed(stream, source.draw(workload, p), list, audit)?;
@@ -161,7 +167,9 @@ pub(crate) fn run<D: Domain + Drop>(
     domain: D,
     workload: Workload,
     settings: Settings,
-) -> anyhow::Result<Outcome> {
+) -> anyhow::Result<Outcome>
+    ensures { IfOk result (runs.Tells workload settings (width_of (D.meaning domain))) }
+{
     let mut audit = Audit {
         book: Book::new(heap, settings, domain.width()),
         checksum: Checksum::new(),

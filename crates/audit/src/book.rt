@@ -103,7 +103,7 @@ impl Book {
     }
 
     pub(crate) fn accept(&mut self, fed: Record) -> Result<(), AllocError>
-        ensures { OnOk result (self.new ≡ record self.old { entries = self.old.entries ++ (record { fed = fed; written = None }) ∷ [] }) }
+        ensures { OnOk result (self.new ≡ books.accepted fed self.old) }
     {
         self.entries.push(Entry { fed, written: None })?;
         Ok(())
