@@ -138,6 +138,7 @@ fn feed<D: Domain + Drop>(
         .feed(fed, list)
         .map_err(|_| anyhow!("a record was refused"))?;
     audit.book.accept(fed)?;
+    // What the stream answers is not trusted: it may be more than the list has.
     audit.lines(&list[..n.min(list.len())], Moment::Feeding)?;
     Ok(())
 }
@@ -175,9 +176,8 @@ pub(crate) fn run<D: Domain + Drop>(
         checksum: Checksum::new(),
         breach: None,
     };
-    let mut stream = Stream::open(heap, domain, settings).map_err(|_| anyhow!(
-        "no stream was opened"
-    ))?;
+    let opened = Stream::open(heap, domain, settings);
+    let mut stream = opened.map_err(|_| anyhow!("no stream was opened"))?;
     let mut list = [BLANK; LINES];
     feed_all(&mut stream, workload, &mut list, &mut audit)?;
     let breach = audit.end(stream.accepted(), stream.suppressed());

@@ -173,15 +173,14 @@ impl Book {
     pub(crate) fn enter(&mut self, line: &Line) -> Result<(), AllocError>
         ensures { OnOk result (self.new ≡ books.entered self.old line.now) }
     {
-        let Some(at) = (line.position as usize).checked_sub(1) else {
-            return Ok(());
-        };
-        if at < self.entries.len() {
-            let owner = self.entries[at].fed.owner;
+        if let Some(at) = (line.position as usize).checked_sub(1)
+            && let Some(entry) = self.entries.get_mut(at)
+        {
+            entry.written = Some(line.manner);
+            let owner = entry.fed.owner;
             if line.manner == Manner::Released {
                 self.release(line, owner)?;
             }
-            self.entries[at].written = Some(line.manner);
         }
         Ok(())
     }

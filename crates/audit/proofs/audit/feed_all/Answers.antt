@@ -1,4 +1,4 @@
-use Rattle.std.proofs.Common.{◌≡◌, refl, subst, add-one, arith, rules}
+use Rattle.std.proofs.Common.{◌≡◌, subst, add-one, arith, rules}
 use Rattle.audit.specs.Runs.{AreFed}
 use Rattle.audit.proofs.audit.feed_all.Goals as goal
 
