@@ -1,5 +1,11 @@
 // A run of a stream over a workload, audited from what was fed and what was written.
-use crate::book::Book;
+ghost use Rattle.std.specs.Prelude.{◌≡◌, fold, IfOk, OnOk};
+ghost use Rattle.domain.specs.Meaning.{width_of};
+ghost use Rattle.audit.specs.Audits as audits;
+ghost use Rattle.audit.specs.Books as books;
+ghost use Rattle.audit.specs.Runs as runs;
+
+use crate::book::{Book, Moment};
 use crate::wrong::{Breach, Wrong};
 use anyhow::anyhow;
 use domain::{Domain, PLACES, Range};
@@ -32,44 +38,53 @@ struct Audit {
 }
 
 impl Audit {
-    fn line(&mut self, line: &Line, closing: bool) -> Result<(), AllocError> {
+    // Behind the first thing found wrong, lines are only summed.
+    fn line(&mut self, line: &Line, moment: Moment) -> Result<(), AllocError>
+        ensures { OnOk result (self.new ≡ audits.audited moment self.old line.now) }
+    {
         self.checksum.line(line);
-        if self.breach.is_none() {
-            match self.book.fault(line, closing) {
-                Some(wrong) => {
-                    self.breach = Some(Breach {
-                        position: line.position,
-                        wrong,
-                    })
-                }
-                None => self.book.enter(line)?,
+        if self.breach.is_some() {
+            return Ok(());
+        }
+        match self.book.fault(line, moment) {
+            Some(wrong) => {
+                self.breach = Some(Breach {
+                    position: line.position as usize,
+                    wrong,
+                });
             }
+            None => self.book.enter(line)?,
         }
         Ok(())
     }
 
     // The lines that one call wrote.
-    fn lines(&mut self, lines: &[Line], closing: bool) -> Result<(), AllocError> {
+    fn lines(&mut self, lines: &[Line], moment: Moment) -> Result<(), AllocError>
+        ensures { OnOk result (self.new ≡ fold (audits.audited moment) self.old lines.now) }
+    {
         for line in lines {
-            self.line(line, closing)?;
+            self.line(line, moment)?;
         }
         Ok(())
     }
 
-    // After the last line: every record is written, every box has its crowd, and the stream counted the same.
-    fn end(&mut self, accepted: u32, suppressed: u32) {
-        if self.breach.is_none() {
-            self.breach = self.book.missing();
-        }
-        if self.breach.is_none() {
-            self.breach = self.book.thin();
-        }
-        if self.breach.is_none() && !self.book.agrees(accepted, suppressed) {
-            self.breach = Some(Breach {
-                position: accepted,
-                wrong: Wrong::Count,
-            });
-        }
+    // What is wrong after the last line: a record that is not written, a box without its crowd, or other counts.
+    fn end(&self, accepted: u32, suppressed: u32) -> Option<Breach>
+        ensures { result ≡ audits.verdict self.now accepted suppressed }
+    {
+        self.breach
+            .or_else(|| self.book.missing())
+            .or_else(|| self.book.thin())
+            .or_else(|| self.miscount(accepted, suppressed))
+    }
+
+    fn miscount(&self, accepted: u32, suppressed: u32) -> Option<Breach>
+        ensures { result ≡ books.miscount self.now.book accepted suppressed }
+    {
+        (!self.book.agrees(accepted, suppressed)).then_some(Breach {
+            position: accepted as usize,
+            wrong: Wrong::Count,
+        })
     }
 }
 
@@ -88,13 +103,14 @@ pub(crate) struct Outcome {
 
 impl fmt::Display for Outcome {
     fn fmt<W: fmt::Write>(&self, f: &mut fmt::Formatter<W>) -> fmt::Result {
-        let workload = self.workload;
-        let g = self.settings;
-        write!(
-            f,
-            "{workload} {},{},{},{},{}: ",
-            g.k, g.delta, g.beta, g.mu, g.rho
-        )?;
+        let Settings {
+            k,
+            delta,
+            beta,
+            mu,
+            rho,
+        } = self.settings;
+        write!(f, "{} {k},{delta},{beta},{mu},{rho}: ", self.workload)?;
         write!(f, "{} released in {} boxes, ", self.released, self.boxes)?;
         write!(
             f,
@@ -103,11 +119,8 @@ impl fmt::Display for Outcome {
         )?;
         write!(f, "{:016x}, ", self.checksum)?;
         match self.breach {
+            Some(breach) => write!(f, "{breach}"),
             None => write!(f, "sound"),
-            Some(breach) => {
-                let wrong = breach.wrong;
-                write!(f, "position {}: {wrong}", breach.position)
-            }
         }
     }
 }
@@ -118,12 +131,15 @@ fn feed<D: Domain + Drop>(
     fed: Record,
     list: &mut [Line],
     audit: &mut Audit,
-) -> anyhow::Result<()> {
-    let Ok(n) = stream.feed(fed, list) else {
-        return Err(anyhow!("a record was refused"));
-    };
+) -> anyhow::Result<()>
+    ensures { OnOk result (runs.IsFed fed audit.old audit.new) }
+{
+    let n = stream
+        .feed(fed, list)
+        .map_err(|_| anyhow!("a record was refused"))?;
     audit.book.accept(fed)?;
-    audit.lines(&list[..n.min(list.len())], false)?;
+    // What the stream answers is not trusted: it may be more than the list has.
+    audit.lines(&list[..n.min(list.len())], Moment::Feeding)?;
     Ok(())
 }
 
@@ -132,16 +148,17 @@ fn feed_all<D: Domain + Drop>(
     workload: Workload,
     list: &mut [Line],
     audit: &mut Audit,
-) -> anyhow::Result<()> {
+) -> anyhow::Result<()>
+    ensures { OnOk result (runs.IsRun workload audit.old audit.new) }
+{
     let mut source = Source::new();
     for p in 0..RECORDS {
-        let fed = source.draw(workload, p);
-        feed(stream, fed, list, audit)?;
+        feed(stream, source.draw(workload, p), list, audit)?;
     }
-    let Ok(n) = stream.close(list) else {
-        return Err(anyhow!("closing was refused"));
-    };
-    audit.lines(&list[..n.min(list.len())], true)?;
+    let n = stream
+        .close(list)
+        .map_err(|_| anyhow!("closing was refused"))?;
+    audit.lines(&list[..n.min(list.len())], Moment::Closing)?;
     Ok(())
 }
 
@@ -151,18 +168,19 @@ pub(crate) fn run<D: Domain + Drop>(
     domain: D,
     workload: Workload,
     settings: Settings,
-) -> anyhow::Result<Outcome> {
+) -> anyhow::Result<Outcome>
+    ensures { IfOk result (runs.Tells workload settings (width_of (D.meaning domain))) }
+{
     let mut audit = Audit {
         book: Book::new(heap, settings, domain.width()),
         checksum: Checksum::new(),
         breach: None,
     };
-    let Ok(mut stream) = Stream::open(heap, domain, settings) else {
-        return Err(anyhow!("no stream was opened"));
-    };
+    let opened = Stream::open(heap, domain, settings);
+    let mut stream = opened.map_err(|_| anyhow!("no stream was opened"))?;
     let mut list = [BLANK; LINES];
     feed_all(&mut stream, workload, &mut list, &mut audit)?;
-    audit.end(stream.accepted(), stream.suppressed());
+    let breach = audit.end(stream.accepted(), stream.suppressed());
     Ok(Outcome {
         workload,
         settings,
@@ -171,6 +189,6 @@ pub(crate) fn run<D: Domain + Drop>(
         reused: audit.book.count(Manner::Reused),
         suppressed: audit.book.count(Manner::Suppressed),
         checksum: audit.checksum.value(),
-        breach: audit.breach,
+        breach,
     })
 }

@@ -1,52 +1,50 @@
 // The different owners whose records a box was released with.
-ghost use Rattle.std.specs.Prelude.{◌≡◌, ◌≤◌, cond, ◌||◌, [], ◌∷◌, ◌++◌, take};
-ghost use Rattle.audit.specs.Crowds.{named_in, joined};
+ghost use Rattle.std.specs.Prelude.{◌≡◌, length};
+ghost use Rattle.audit.specs.Crowds.{joined};
+
+use arrayvec::ArrayVec;
+use std::marker::Model;
 
 // No stream asks for a larger crowd.
 const MOST_OWNERS: usize = 32;
 
 // Up to that many owners, in the order in which they were named.
-#[derive(Clone, Copy)]
+#[derive(Drop)]
 pub(crate) struct Crowd {
-    owners: [u32; MOST_OWNERS],
-    count: usize,
-    ghost few: { count ≤ 32 },
+    owners: ArrayVec<u32, MOST_OWNERS>,
+}
+
+impl Model for Crowd {
+    ghost use Rattle.std.specs.Prelude.{ℕ, List};
+
+    ghost Value = { List ℕ };
+
+    ghost view = { λ c. c.owners.items };
 }
 
 impl Crowd {
+    ghost use Rattle.std.specs.Prelude.{[]};
+
     pub(crate) fn new() -> Crowd
-        ensures { result.count ≡ 0 }
+        ensures { result ≡ [] }
     {
         Crowd {
-            owners: [0; MOST_OWNERS],
-            count: 0,
+            owners: ArrayVec::new(),
         }
     }
 
     pub(crate) fn size(&self) -> usize
-        ensures { result ≡ self.now.count }
+        ensures { result ≡ length self.now }
     {
-        self.count
-    }
-
-    fn has(&self, owner: u32) -> bool
-        ensures { result ≡ named_in owner (take self.now.count self.now.owners) }
-    {
-        for i in 0..self.count {
-            if self.owners[i] == owner {
-                return true;
-            }
-        }
-        false
+        self.owners.len()
     }
 
     // An owner that is new is added, while there is room.
     pub(crate) fn name(&mut self, owner: u32)
-        ensures { take self.new.count self.new.owners ≡ joined owner (take self.old.count self.old.owners) }
+        ensures { self.new ≡ joined owner self.old }
     {
-        if self.count < MOST_OWNERS && !self.has(owner) {
-            self.owners[self.count] = owner;
-            self.count += 1;
+        if !self.owners.is_full() && !self.owners.contains(&owner) {
+            self.owners.push(owner);
         }
     }
 }

@@ -9,7 +9,9 @@ mod wrong;
 
 use anyhow::anyhow;
 use audit::run;
+use domain::Domain;
 use release::Settings;
+use std::alloc::Global;
 use workload::{Workload, six, two};
 
 const SETTINGS: [Settings; 3] = [
@@ -36,25 +38,26 @@ const SETTINGS: [Settings; 3] = [
     },
 ];
 
-fn main(rt: HostRuntime) -> anyhow::Result<()> {
-    let heap = rt.alloc();
-    for settings in &SETTINGS {
-        let Ok(domain) = two(heap) else {
-            return Err(anyhow!("no taxonomy was made"));
-        };
-        let outcome = run(heap, domain, Workload::Even, *settings)?;
-        println!(rt; "{outcome}")?;
-    }
-    for settings in &SETTINGS {
-        let outcome = run(heap, six(), Workload::Wide, *settings)?;
-        println!(rt; "{outcome}")?;
-    }
-    for settings in &SETTINGS {
-        let Ok(domain) = two(heap) else {
-            return Err(anyhow!("no taxonomy was made"));
-        };
-        let outcome = run(heap, domain, Workload::Phased, *settings)?;
+// Runs the workload with each of the settings, over a domain of its own, and prints what each run came to.
+fn run_each<D: Domain + Drop, F: Fn() -> anyhow::Result<D>>(
+    rt: &impl Print,
+    heap: Global,
+    workload: Workload,
+    domain: F,
+) -> anyhow::Result<()>
+    requires { F.IsAlwaysCallable domain }
+{
+    for settings in SETTINGS {
+        let outcome = run(heap, domain()?, workload, settings)?;
         println!(rt; "{outcome}")?;
     }
     Ok(())
+}
+
+fn main(rt: HostRuntime) -> anyhow::Result<()> {
+    let heap = rt.alloc();
+    let two = || two(heap).map_err(|_| anyhow!("no taxonomy was made"));
+    run_each(&rt, heap, Workload::Even, two)?;
+    run_each(&rt, heap, Workload::Wide, || Ok(six()))?;
+    run_each(&rt, heap, Workload::Phased, two)
 }

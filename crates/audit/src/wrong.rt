@@ -1,40 +1,34 @@
 // What an audit can find wrong.
-use std::fmt;
+use thiserror::Error;
 
-#[derive(Clone, Copy, Debug, PartialEq, Eq)]
+#[derive(Clone, Copy, Debug, PartialEq, Eq, Error)]
 pub(crate) enum Wrong {
+    #[error("no such record was accepted")]
     NotAccepted,
+    #[error("written a second time")]
     Twice,
+    #[error("written too late")]
     Late,
+    #[error("another reading")]
     Reading,
+    #[error("ranges that do not cover it, or too many")]
     Ranges,
+    #[error("a box number that cannot be")]
     Number,
+    #[error("other ranges than the box had before")]
     Changed,
+    #[error("too few owners behind the box")]
     Crowd,
+    #[error("never written")]
     Missing,
+    #[error("the stream counts otherwise")]
     Count,
 }
 
-impl fmt::Display for Wrong {
-    fn fmt<W: fmt::Write>(&self, f: &mut fmt::Formatter<W>) -> fmt::Result {
-        match self {
-            Wrong::NotAccepted => write!(f, "no such record was accepted"),
-            Wrong::Twice => write!(f, "written a second time"),
-            Wrong::Late => write!(f, "written too late"),
-            Wrong::Reading => write!(f, "another reading"),
-            Wrong::Ranges => write!(f, "ranges that do not cover it, or too many"),
-            Wrong::Number => write!(f, "a box number that cannot be"),
-            Wrong::Changed => write!(f, "other ranges than the box had before"),
-            Wrong::Crowd => write!(f, "too few owners behind the box"),
-            Wrong::Missing => write!(f, "never written"),
-            Wrong::Count => write!(f, "the stream counts otherwise"),
-        }
-    }
-}
-
 // The first thing found wrong, with the position of the record.
-#[derive(Clone, Copy)]
+#[derive(Clone, Copy, Debug, PartialEq, Eq, Error)]
+#[error("position {position}: {wrong}")]
 pub(crate) struct Breach {
-    pub position: u32,
+    pub position: usize,
     pub wrong: Wrong,
 }

@@ -1,7 +1,7 @@
 // Tells of each report line on standard input what was taken from it, or why and where it was turned away.
 #![tactic(auto)]
 
-use filter::{Entry, LIMIT, survey};
+use filter::{Entry, Findings, LIMIT, survey};
 use std::io::Read;
 use std::process::ExitCode;
 
@@ -10,7 +10,7 @@ fn main(rt: HostRuntime) -> anyhow::Result<ExitCode> {
     let mut input = Vec::new(heap);
     // One byte more than may be is enough to see that there are too many.
     rt.stdin().take(LIMIT as u64 + 1).read_to_end(&mut input)?;
-    let findings = match survey(heap, &input) {
+    let Findings { lines, taken } = match survey(heap, &input) {
         Ok(findings) => findings,
         Err(refusal) => {
             match refusal.number() {
@@ -20,15 +20,13 @@ fn main(rt: HostRuntime) -> anyhow::Result<ExitCode> {
             return Ok(ExitCode::FAILURE);
         }
     };
-    for outcome in findings.lines.iter() {
-        let entry = Entry { outcome: *outcome };
-        println!(rt; "{entry}")?;
+    for &outcome in &lines {
+        println!(rt; "{}", Entry { outcome })?;
     }
-    let lines = findings.lines.len();
-    let taken = findings.taken;
     println!(rt;
-        "{lines} lines: {taken} taken, {} turned away",
-        lines.saturating_sub(taken)
+        "{} lines: {taken} taken, {} turned away",
+        lines.len(),
+        lines.len() - taken
     )?;
     Ok(ExitCode::SUCCESS)
 }

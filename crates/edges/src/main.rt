@@ -1,10 +1,12 @@
 // Reads texts at the edges of what a report line may be, and tells what becomes of each line.
 #![tactic(auto)]
 
-ghost use Rattle.std.specs.Prelude.{◌≡◌, ◌+◌, ◌*◌, length, IfOk, vec_len};
+ghost use Rattle.std.specs.Prelude.{◌≡◌, ◌++◌, replicate, IfOk};
+ghost use Rattle.std.specs.List.{concat};
 
-use filter::{LIMIT, survey};
+use filter::{Findings, LIMIT, survey};
 use report::{LineFault, Reader, Report, Width};
+use rfc4180::{Diagnostic, Location};
 use std::alloc::{AllocError, Global};
 use std::fmt;
 
@@ -15,24 +17,14 @@ struct Told(Result<Report, LineFault>);
 impl fmt::Display for Told {
     fn fmt<W: fmt::Write>(&self, f: &mut fmt::Formatter<W>) -> fmt::Result {
         match self.0 {
-            Ok(report) => {
-                let line = report.line;
-                let byte = report.byte;
-                let owner = report.owner;
-                let values = report.values;
-                let reading = report.reading;
-                write!(
-                    f,
-                    "line {line}, byte {byte}: owner {owner}, values {values:?}, reading {reading}"
-                )
-            }
+            Ok(report) => write!(
+                f,
+                "line {}, byte {}: owner {}, values {:?}, reading {}",
+                report.line, report.byte, report.owner, report.values, report.reading
+            ),
             Err(fault) => {
-                let told = fault.diagnostic();
-                let line = told.at.line;
-                let column = told.at.column;
-                let byte = told.at.byte;
-                let number = told.number;
-                let layer = told.layer;
+                let Diagnostic { number, layer, at } = fault.diagnostic();
+                let Location { line, column, byte } = at;
                 write!(
                     f,
                     "line {line}, column {column}, byte {byte}: {number} ({layer}), {fault}"
@@ -44,53 +36,44 @@ impl fmt::Display for Told {
 
 // A text, and the width that it is read at.
 #[derive(Clone, Copy)]
-struct Case<'a> {
-    name: &'a str,
+struct Case {
+    name: &'static str,
     width: usize,
-    text: &'a [u8],
+    text: &'static [u8],
 }
 
-impl fmt::Display for Case<'_> {
+impl fmt::Display for Case {
     fn fmt<W: fmt::Write>(&self, f: &mut fmt::Formatter<W>) -> fmt::Result {
-        let name = self.name;
-        write!(f, "{name}")?;
+        write!(f, "{}", self.name)?;
         let width = match Width::new(self.width) {
             Ok(width) => width,
             Err(fault) => return write!(f, "\n  {}", fault.number()),
         };
         let mut reader = Reader::begin(self.text, width);
         while let Some(outcome) = reader.next_line() {
-            let told = Told(outcome);
-            write!(f, "\n  {told}")?;
+            write!(f, "\n  {}", Told(outcome))?;
         }
         Ok(())
     }
 }
 
+// A report line in which nothing is wrong.
+const SOUND: &[u8] = b"12,40,2,-7\r\n";
+
 // A torn line, and a hundred sound ones behind it.
 fn torn(heap: Global, line: &[u8]) -> Result<Vec<u8>, AllocError>
-    ensures { IfOk result (λ v. vec_len v ≡ length line.now + 100 * 12) }
+    ensures { IfOk result (λ v. v.items ≡ line.now ++ concat (replicate 100 SOUND.now)) }
 {
     let mut text = Vec::new(heap);
     text.extend_from_slice(line)?;
-    for i in 0..100usize {
-        text.extend_from_slice(b"12,40,2,-7\r\n")?;
+    // std repeats no slice.
+    for _i in 0..100usize {
+        text.extend_from_slice(SOUND)?;
     }
     Ok(text)
 }
 
-// So many ones.
-fn ones(heap: Global, count: usize) -> Result<Vec<u8>, AllocError>
-    ensures { IfOk result (λ v. vec_len v ≡ count) }
-{
-    let mut text = Vec::new(heap);
-    for i in 0..count {
-        text.push(b'1')?;
-    }
-    Ok(text)
-}
-
-const CASES: [Case<'static>; 49] = [
+const CASES: [Case; 49] = [
     Case {
         name: "width 0",
         width: 0,
@@ -339,23 +322,22 @@ const CASES: [Case<'static>; 49] = [
 ];
 
 fn main(rt: HostRuntime) -> anyhow::Result<()> {
-    for case in &CASES {
+    for case in CASES {
         println!(rt; "{case}")?;
     }
     let heap = rt.alloc();
     let tears: [&[u8]; 3] = [b"12,4\r\n", b"12,\"4\r\n", b"12,4\x07\r\n"];
     for tear in tears {
         match survey(heap, &torn(heap, tear)?) {
-            Ok(findings) => println!(rt;
-                "torn: {} lines, {} taken",
-                findings.lines.len(),
-                findings.taken
+            Ok(Findings { lines, taken }) => println!(rt;
+                "torn: {} lines, {taken} taken",
+                lines.len()
             )?,
             Err(_) => println!(rt; "torn: refused")?,
         }
     }
     for size in [LIMIT, LIMIT + 1] {
-        match survey(heap, &ones(heap, size)?) {
+        match survey(heap, &vec![in heap; b'1'; size]?) {
             Ok(findings) => println!(rt; "{size} bytes: {} lines", findings.lines.len())?,
             Err(refusal) => println!(rt; "{size} bytes: {:?}", refusal.number())?,
         }

@@ -10,15 +10,16 @@ struct Shown<'a>(Field<'a>);
 
 impl fmt::Display for Shown<'_> {
     fn fmt<W: fmt::Write>(&self, f: &mut fmt::Formatter<W>) -> fmt::Result {
-        match self.0 {
-            Field::Plain(_) => write!(f, "plain ")?,
-            Field::Quoted(_) => write!(f, "quoted ")?,
-        }
-        for b in self.0.content() {
-            match *b {
+        let kind = match self.0 {
+            Field::Plain(_) => "plain",
+            Field::Quoted(_) => "quoted",
+        };
+        write!(f, "{kind} ")?;
+        for &byte in self.0.content() {
+            match byte {
                 b'\r' => write!(f, "<CR>")?,
                 b'\n' => write!(f, "<LF>")?,
-                c => write!(f, "{}", c as char)?,
+                _ => write!(f, "{}", char::from(byte))?,
             }
         }
         Ok(())
@@ -34,28 +35,23 @@ struct Example<'a> {
 
 impl fmt::Display for Example<'_> {
     fn fmt<W: fmt::Write>(&self, f: &mut fmt::Formatter<W>) -> fmt::Result {
-        let name = self.name;
-        write!(f, "{name}")?;
+        write!(f, "{}", self.name)?;
         let mut place = 0;
-        for number in 1..9 {
+        // By place, since a line begins where the one before it ended.
+        for number in 1..=8 {
             if place >= self.text.len() {
                 break;
             }
             let mut fields = [Field::Plain(b""); 8];
-            match read_line(self.text, place, number, &mut fields) {
-                Ok(line) => {
-                    write!(f, "\n  line {number}")?;
-                    for field in &fields[0..line.fields.min(8)] {
-                        let shown = Shown(*field);
-                        write!(f, "\n    {shown}")?;
-                    }
-                    place = line.next;
-                }
-                Err(fault) => {
-                    write!(f, "\n  {fault:?}")?;
-                    break;
-                }
+            let line = match read_line(self.text, place, number, &mut fields) {
+                Ok(line) => line,
+                Err(fault) => return write!(f, "\n  {fault:?}"),
+            };
+            write!(f, "\n  line {number}")?;
+            for &field in fields.iter().take(line.fields) {
+                write!(f, "\n    {}", Shown(field))?;
             }
+            place = line.next;
         }
         Ok(())
     }

@@ -1,5 +1,7 @@
-use Rattle.std.proofs.Common.{◌≡◌, ◌+◌, ◌*◌, length, vec_len}
+use Rattle.std.proofs.Common.{◌≡◌, ◌++◌, replicate}
+use Rattle.std.specs.List.{concat}
+use Rattle.edges.specs.declared.TheConstants.{SOUND}
 use Rattle.edges.proofs.torn.Given as goal
 
 abbrev pub invariant-loop-i : goal.invariant-loop-i
-invariant-loop-i l = vec_len l.text ≡ length l.line + l.i * 12
+invariant-loop-i l = l.text.items ≡ l.line ++ concat (replicate l._i SOUND.now)
