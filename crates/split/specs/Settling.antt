@@ -2,16 +2,21 @@
 use Rattle.std.specs.Prelude.{◌≡◌, ℕ, ◌+◌, ◌-◌, ◌≤◌, Bool, cond, ◌&&◌, List, [], ◌∷◌, map, length, Some, None, Option, ◌==◌, nat_lt}
 use Rattle.std.specs.List.{AllByRecursion, IsFirstBest}
 use Rattle.domain.specs.Meaning.{Meaning}
-use Rattle.domain.specs.Boxes.{box_loss}
+use Rattle.domain.specs.Boxes.{box_loss, point_box}
 use Rattle.rules.specs.declared.Entry.{Entry}
 use Rattle.rules.specs.declared.Held.{Held}
 use Rattle.rules.specs.Choosing.{total}
-use Rattle.rules.specs.Clusters.{owner, owners, members, widened}
+use Rattle.rules.specs.Clusters.{Box, owner, values, owners, members, widened}
 use Rattle.rules.specs.Promise.{one}
 use Rattle.rules.specs.Split.{part}
 use Rattle.split.specs.declared.Part.{Part}
 use Rattle.split.specs.Faces.{place_in}
 use Rattle.split.specs.Parted.{part_of}
+
+-- the box of the records so far, if any, once it takes in one more
+abbrev pub with_one : Meaning → Option Box → Entry → Box
+with_one m None e = point_box m (values e)
+with_one m (Some b) e = widened m b e
 
 -- by how much the record widens the part's box
 abbrev pub box_growth : Meaning → Entry → Part → ℕ

@@ -3,6 +3,7 @@ ghost use Rattle.std.specs.List.{range_with_len};
 ghost use Rattle.rules.specs.declared.Entry.{Entry};
 ghost use Rattle.rules.specs.Clusters.{box_of};
 ghost use Rattle.split.specs.Parted.{says, marked, part_of};
+ghost use Rattle.split.specs.Settling.{with_one};
 
 use crate::Part;
 use domain::{Domain, PLACES, Range, box_loss, point_box, widen};
@@ -11,37 +12,43 @@ use rules::{Entry, Held};
 fn is_of(mark: Option<usize>, part: usize) -> bool
     ensures { result ≡ says part mark }
 {
-    match mark {
-        Some(place) => place == part,
-        None => false,
+    mark == Some(part)
+}
+
+// The box of the records so far, if any, once it takes in one more.
+fn with_one<D: Domain>(d: &D, bounds: Option<[Range; PLACES]>, e: &Entry) -> [Range; PLACES]
+    ensures { result ≡ with_one (D.meaning d.now) bounds e.now }
+{
+    match bounds {
+        None => point_box(d, &e.fed.values),
+        Some(mut wider) => {
+            widen(d, &mut wider, &e.fed.values);
+            wider
+        }
     }
 }
 
-// The box of so many records, `bounds`, once it takes in one more.
-fn with_one<D: Domain>(d: &D, bounds: [Range; PLACES], count: usize, e: &Entry) -> [Range; PLACES]
-    ensures { (es : List Entry) → length es ≡ count → bounds ≡ box_of (D.meaning d.now) es → result ≡ box_of (D.meaning d.now) (es ++ e.now ∷ []) }
+// The least box around the held records that are marked as of the part.
+fn box_around<D: Domain>(
+    d: &D,
+    held: &[Held],
+    marks: &[Option<usize>],
+    part: usize,
+) -> [Range; PLACES]
+    ensures { result ≡ box_of (D.meaning d.now) (marked part marks.now held.now) }
 {
-    if count == 0 {
-        return point_box(d, &e.fed.values);
-    }
-    let mut wider = bounds;
-    widen(d, &mut wider, &e.fed.values);
-    wider
+    held.iter()
+        .zip(marks)
+        .filter(|(_, mark)| is_of(**mark, part))
+        .fold(None, |bounds, (h, _)| Some(with_one(d, bounds, &h.entry)))
+        .unwrap_or([Range::point(0); PLACES])
 }
 
 // Box and loss of the held records that are marked as of the part.
 pub(crate) fn part_of<D: Domain>(d: &D, held: &[Held], marks: &[Option<usize>], part: usize) -> Part
-    requires { length marks.now ≡ length held.now }
     ensures { result ≡ part_of (D.meaning d.now) (marked part marks.now held.now) }
 {
-    let mut bounds = [Range::point(0); PLACES];
-    let mut count = 0;
-    for (i, h) in held.iter().enumerate() {
-        if is_of(marks[i], part) {
-            bounds = with_one(d, bounds, count, &h.entry);
-            count += 1;
-        }
-    }
+    let bounds = box_around(d, held, marks, part);
     Part {
         bounds,
         loss: box_loss(d, &bounds),
@@ -56,7 +63,6 @@ pub(crate) fn measure<D: Domain>(
     made: usize,
     parts: &mut Vec<Part>,
 )
-    requires long { length marks.now ≡ length held.now }
     requires bare { parts.old.items ≡ [] }
     requires room { made ≤ vec_capacity parts.old }
     ensures all { parts.new.items ≡ map (λ j. part_of (D.meaning d.now) (marked j marks.now held.now)) (range_with_len 0 made) }

@@ -12,24 +12,24 @@ pub(crate) struct Face {
     pub part: Option<usize>,
 }
 
-pub(crate) fn lacks_part(face: &Face) -> bool
-    ensures { result ≡ lacks_part face.now }
-{
-    match face.part {
-        Some(_) => false,
-        None => true,
+impl Face {
+    pub fn owner(&self) -> u32
+        ensures { result ≡ owner_of self.now }
+    {
+        self.stand_in.fed.owner
+    }
+
+    pub fn lacks_part(&self) -> bool
+        ensures { result ≡ lacks_part self.now }
+    {
+        self.part.is_none()
     }
 }
 
 fn is_known(faces: &[Face], owner: u32) -> bool
     ensures { result ≡ listed owner (map owner_of faces.now) }
 {
-    for face in faces {
-        if face.stand_in.fed.owner == owner {
-            return true;
-        }
-    }
-    false
+    faces.iter().any(|face| face.owner() == owner)
 }
 
 // The owners of the cluster, by their earliest records, none in a part.
@@ -56,10 +56,8 @@ pub(crate) fn collect(held: &[Held], label: u32, faces: &mut Vec<Face>)
 pub(crate) fn place_of(faces: &[Face], owner: u32) -> Option<usize>
     ensures { result ≡ place_among faces.now owner }
 {
-    for face in faces {
-        if face.stand_in.fed.owner == owner {
-            return face.part;
-        }
-    }
-    None
+    faces
+        .iter()
+        .find(|face| face.owner() == owner)
+        .and_then(|face| face.part)
 }

@@ -8,7 +8,7 @@ ghost use Rattle.split.specs.Settling.{box_growth, FirstLeastGrown, is_owners, r
 
 use crate::Part;
 use crate::boxes::part_of;
-use crate::faces::{Face, lacks_part};
+use crate::faces::Face;
 use domain::{Domain, box_loss, widen};
 use rules::{Entry, Held};
 
@@ -26,16 +26,11 @@ fn least_grown<D: Domain>(d: &D, parts: &[Part], stand_in: &Entry) -> usize
     requires { 1 ≤ length parts.now }
     ensures { FirstLeastGrown (D.meaning d.now) stand_in.now parts.now result }
 {
-    let mut best = 0;
-    let mut least = growth(d, &parts[0], stand_in);
-    for i in 1..parts.len() {
-        let grows = growth(d, &parts[i], stand_in);
-        if grows < least {
-            best = i;
-            least = grows;
-        }
-    }
-    best
+    parts
+        .iter()
+        .enumerate()
+        .min_by_key(|(_, part)| growth(d, part, stand_in))
+        .map_or(0, |(i, _)| i)
 }
 
 fn is_owners(h: &Held, label: u32, owner: u32) -> bool
@@ -91,7 +86,7 @@ pub(crate) fn settle_remaining<D: Domain>(
     ensures { (ps : List (List ℕ)) → faces.now ≡ map (face ps) (earliest (members label held.now)) → Beside (D.meaning d.now) label held.now ps marks.old parts.old → ApartIn (members label held.now) ps (map owner (remaining faces.now)) → Beside (D.meaning d.now) label held.now (fold (settle (D.meaning d.now) (members label held.now)) ps (map owner (remaining faces.now))) marks.new parts.new }
 {
     for face in faces {
-        if lacks_part(face) {
+        if face.lacks_part() {
             let _ = settle_owner(d, held, label, &face.stand_in, marks, parts);
         }
     }
