@@ -1,5 +1,5 @@
--- The part that grows least, and the marks of an owner who joins it.
-use Rattle.std.proofs.Common.{◌≡◌, ℕ, ◌+◌, ◌<◌, ◌≤◌, Bool, cond, ltb, List, [], ◌∷◌, ◌++◌, map, length, get_or, take, drop, set, Some, None, Option, MatchOption, Bor, sym, ap, ◌∙◌, subst, zero-add, arith}
+-- The part that grows least.
+use Rattle.std.proofs.Common.{◌≡◌, ℕ, ◌<◌, ◌≤◌, Bool, cond, ltb, List, [], ◌∷◌, map, length, get_or, Some, None, Option, MatchOption, Bor, sym, ap, ◌∙◌, subst, zero-add, arith}
 use denote.Param.Members.{Mut}
 use Rattle.std.specs.declared.cmp.Ordering.{Ordering}
 use Rattle.std.specs.declared.cmp.Ordering.TheVariants.{Less, Equal, Greater}
@@ -12,11 +12,7 @@ use Rattle.std.proofs.lemmas.Cmp.{ranked}
 use Rattle.std.proofs.lemmas.Iterator.{YieldsList}
 use Rattle.std.proofs.lemmas.List.FromFn.{length-enumerate_from, get_or-enumerate_from}
 use Rattle.std.proofs.lemmas.List.MinMax.{IsStrictWeakOrder-by_number, IsFirstBest-from_best_of}
-use Rattle.std.proofs.lemmas.List.{append_assoc, append-nil, take_more_set, drop-set-lt, drop_more, take_all, drop_all}
 use Rattle.std.proofs.lemmas.Bool.{lt-ltb, le-ltb}
-use Rattle.rules.specs.declared.Held.{Held}
-use Rattle.split.specs.Settling.{is_owners, remarked}
-use Rattle.split.proofs.Blanks.{no_held}
 
 -- ---- the first of those that have the least key, as `min_by_key` picks it
 
@@ -73,22 +69,3 @@ first_least {X = X} {steps = steps} {s = s} key xs g f (Some y) place some (x, y
     let here : place ≡ first.0 =
     is ∙ ap (λ p. p.0) (best ∙ sym first.2 ∙ ap (λ l. get_or l first.0 (v x)) all ∙ get_or-enumerate_from 0 xs first.0 (v x) so.0) ∙ zero-add first.0 in
     subst (IsFirstBest (λ x y. ltb (key x) (key y)) xs (length xs)) (sym here) (first_best key xs first.0 so)
-
--- ---- the owner's marks
-
-module _ (c w j : ℕ) (hs : List Held) where
-  -- what the marks before a place and those still to come are made of
-  pub remark_more : (xs : List (Option ℕ)) (i : ℕ) (y : Option ℕ) → i < length hs → i < length xs → y ≡ cond (is_owners c w (get_or hs i no_held)) (Some j) (get_or xs i None)
-      → take (i + 1) (set xs i y) ++ remarked c w j (drop (i + 1) hs) (drop (i + 1) (set xs i y)) ≡ take i xs ++ remarked c w j (drop i hs) (drop i xs)
-  remark_more xs i y p q e =
-      ap (λ l. l ++ remarked c w j (drop (i + 1) hs) (drop (i + 1) (set xs i y))) (take_more_set xs i y q)
-      ∙ ap (λ l. (take i xs ++ y ∷ []) ++ remarked c w j (drop (i + 1) hs) l) (drop-set-lt (i + 1) xs i y (omega arith))
-      ∙ append_assoc (take i xs) (y ∷ []) (remarked c w j (drop (i + 1) hs) (drop (i + 1) xs))
-      ∙ ap (λ z. take i xs ++ (z ∷ remarked c w j (drop (i + 1) hs) (drop (i + 1) xs))) e
-      ∙ ap (λ l. take i xs ++ remarked c w j l (get_or xs i None ∷ drop (i + 1) xs)) (sym (drop_more hs i no_held p))
-      ∙ ap (λ l. take i xs ++ remarked c w j (drop i hs) l) (sym (drop_more xs i None q))
-
-  pub remark_all : (xs : List (Option ℕ)) (i : ℕ) → length hs ≤ i → length xs ≤ i → take i xs ++ remarked c w j (drop i hs) (drop i xs) ≡ xs
-  remark_all xs i p q =
-      ap (λ l. l ++ remarked c w j (drop i hs) (drop i xs)) (take_all i xs q)
-      ∙ ap (λ l. xs ++ remarked c w j l (drop i xs)) (drop_all i hs p) ∙ append-nil xs

@@ -1,9 +1,10 @@
 ghost use Rattle.std.specs.Prelude.{◌≡◌, ◌≤◌, [], map, length, vec_len, vec_capacity};
 ghost use Rattle.rules.specs.Choosing.{listed};
-ghost use Rattle.rules.specs.Clusters.{members};
 ghost use Rattle.split.specs.Faces.{earliest, face, owner_of, lacks_part, place_among};
+ghost use Rattle.split.specs.Parted.{entries};
 
-use rules::{Entry, Held};
+use crate::Member;
+use rules::Entry;
 
 // An owner of the cluster: his earliest record in it, which stands for him, and the place of his part, once he has one.
 #[derive(Clone, Copy)]
@@ -32,22 +33,20 @@ fn is_known(faces: &[Face], owner: u32) -> bool
     faces.iter().any(|face| face.owner() == owner)
 }
 
-// The owners of the cluster, by their earliest records, none in a part.
-pub(crate) fn collect(held: &[Held], label: u32, faces: &mut Vec<Face>)
-    requires bare { faces.old.items ≡ [] }
-    requires room { length held.now ≤ vec_capacity faces.old }
-    ensures all { faces.new.items ≡ map (face []) (earliest (members label held.now)) }
-    ensures few { vec_len faces.new ≤ length held.now }
+// The owners of the members, by their earliest records, none in a part.
+pub(crate) fn collect(members: &[Member], faces: &mut Vec<Face>)
+    requires { length members.now ≤ vec_capacity faces.old }
+    ensures all { faces.new.items ≡ map (face []) (earliest (entries members.now)) }
+    ensures few { vec_len faces.new ≤ length members.now }
     ensures capacity { vec_capacity faces.new ≡ vec_capacity faces.old }
 {
-    for h in held {
-        if h.label == label {
-            if !is_known(faces.as_slice(), h.entry.fed.owner) {
-                faces.push_reserved(Face {
-                    stand_in: h.entry,
-                    part: None,
-                });
-            }
+    faces.clear();
+    for member in members {
+        if !is_known(faces.as_slice(), member.entry.fed.owner) {
+            faces.push_reserved(Face {
+                stand_in: member.entry,
+                part: None,
+            });
         }
     }
 }
