@@ -5,6 +5,7 @@ use Rattle.std.specs.Option.{option_map}
 use Rattle.std.proofs.lemmas.List.FromFn.{length-map-range_with_len, get_or-map-range_with_len}
 use Rattle.std.proofs.ByRecursion.{All-weaker, All-map}
 use Rattle.std.proofs.lemmas.List.{same_lists, length-map, length-take, get_or-map}
+use Rattle.std.proofs.lemmas.Simd.{map-map}
 use Rattle.std.proofs.lemmas.Bool.{both_ways, eqb-true, lt-ltb, le-ltb, cases_lt}
 use Rattle.domain.specs.Meaning.{Meaning}
 use Rattle.rules.specs.declared.Entry.{Entry}
@@ -40,10 +41,6 @@ map_places {X = X} f ps =
 map_same : {X Y : Type 0} (f g : X → Y) → ((x : X) → f x ≡ g x) → (xs : List X) → map f xs ≡ map g xs
 map_same f g h [] = refl
 map_same f g h (x ∷ xs) = ap (λ y. y ∷ map f xs) (h x) ∙ ap (λ l. g x ∷ l) (map_same f g h xs)
-
-map_twice : {X Y Z : Type 0} (f : Y → Z) (g : X → Y) (xs : List X) → map (λ x. f (g x)) xs ≡ map f (map g xs)
-map_twice f g [] = refl
-map_twice f g (x ∷ xs) = ap (λ l. f (g x) ∷ l) (map_twice f g xs)
 
 -- ---- places, by faces and by parts
 
@@ -141,7 +138,7 @@ module _ (m : Meaning) (k : ℕ) (es : List Entry) (pos : 1 ≤ k) where
         whole = ap entries so.placed ∙ entries_of (λ e. place_in ps (owner e)) es;
         within = subst (λ n. Within n ms) (sym many) within;
         records = records_told ps ms (length boxes) once so.placed many ∙ sym these;
-        told = so.told ∙ map_twice (part_of m) (part es) ps ∙ ap (map (part_of m)) (sym these);
+        told = so.told ∙ sym (map-map (part_of m) (part es) ps) ∙ ap (map (part_of m)) (sym these);
       }
 
 pub split_parted : (m : Meaning) (k : ℕ) (before : List Member) → 1 ≤ k → let es = entries before in (faces : List Face) (made : ℕ) (ms out : List Member) (boxes told : List Part) → 2 * k ≤ size es → Cuts m k es faces made → ms ≡ map (placed faces) before
@@ -182,7 +179,7 @@ cuts_at m k es fs gs made e so = subst (λ z. Cuts m k es z made) (sym e) so
 
 -- with one place for a neighbour less than the crowd
 pub crowd_at : {X : Type 0} (m : Meaning) (k : ℕ) (xs es : List Entry) (ms : List Member) (boxes : List Part) (near : List X) → xs ≡ es → length near ≡ 31 → 2 ≤ k → k ≤ 32 → 2 * k ≤ size es
-    → (2 * (length (take ((k - 1) - 0) near) + 1) ≤ size xs → Parted m (length (take ((k - 1) - 0) near) + 1) xs ms boxes) → Parted m k es ms boxes
+    → (2 * (length (take (k - 1) near) + 1) ≤ size xs → Parted m (length (take (k - 1) near) + 1) xs ms boxes) → Parted m k es ms boxes
 crowd_at m k xs es ms boxes near e long low high many so =
-    let same : length (take ((k - 1) - 0) near) + 1 ≡ k = omega (arith, length-take ((k - 1) - 0) near) in
-    subst (λ n. Parted m n es ms boxes) same (subst (λ xs. Parted m (length (take ((k - 1) - 0) near) + 1) xs ms boxes) e (so (omega (arith, ap size e))))
+    let same : length (take (k - 1) near) + 1 ≡ k = omega (arith, length-take (k - 1) near) in
+    subst (λ n. Parted m n es ms boxes) same (subst (λ xs. Parted m (length (take (k - 1) near) + 1) xs ms boxes) e (so (omega (arith, ap size e))))

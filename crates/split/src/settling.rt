@@ -1,10 +1,9 @@
-ghost use Rattle.std.specs.Prelude.{◌≡◌, ℕ, ◌≤◌, List, map, length, fold, slice_set};
+ghost use Rattle.std.specs.Prelude.{◌≡◌, ℕ, ◌≤◌, List, map, length, fold};
 ghost use Rattle.rules.specs.Clusters.{owner};
 ghost use Rattle.rules.specs.Split.{settle};
 ghost use Rattle.split.specs.Faces.{earliest, face};
 ghost use Rattle.split.specs.Near.{remaining};
-ghost use Rattle.split.specs.Parted.{marked, part_of};
-ghost use Rattle.split.specs.Settling.{box_growth, FirstLeastGrown, moved, Beside, ApartIn};
+ghost use Rattle.split.specs.Settling.{box_growth, FirstLeastGrown, Beside, ApartIn};
 
 use crate::boxes::part_of;
 use crate::faces::Face;
@@ -34,25 +33,7 @@ fn least_grown<D: Domain>(d: &D, parts: &[Part], stand_in: &Entry) -> usize
         .map_or(0, |(i, _)| i)
 }
 
-// A leftover owner joins the part that grows least, with all of his records: the part's place.
-fn settle_owner<D: Domain>(
-    d: &D,
-    stand_in: &Entry,
-    members: &mut [Member],
-    parts: &mut [Part],
-) -> usize
-    requires { 1 ≤ length parts.old }
-    ensures least { FirstLeastGrown (D.meaning d.now) stand_in.now parts.old result }
-    ensures members { members.new ≡ map (moved (owner stand_in.now) result) members.old }
-    ensures parts { parts.new ≡ slice_set parts.old result (part_of (D.meaning d.now) (marked result members.new)) }
-{
-    let part = least_grown(d, parts, stand_in);
-    move_owner(members, stand_in.fed.owner, part);
-    parts[part] = part_of(d, members, part);
-    part
-}
-
-// The owners that remain without a part join parts, in order.
+// The owners that remain without a part settle, in order: each joins the part that grows least, with all of his records.
 pub(crate) fn settle_remaining<D: Domain>(
     d: &D,
     faces: &[Face],
@@ -64,7 +45,9 @@ pub(crate) fn settle_remaining<D: Domain>(
 {
     for face in faces {
         if face.lacks_part() {
-            let _ = settle_owner(d, &face.stand_in, members, parts);
+            let part = least_grown(d, parts, &face.stand_in);
+            move_owner(members, face.owner(), part);
+            parts[part] = part_of(d, members, part);
         }
     }
 }

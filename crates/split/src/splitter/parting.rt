@@ -62,7 +62,7 @@ impl Splitter {
         } else {
             gather_members(held, cluster.label, None, &mut self.members);
             let mut near = [Neighbour::mark(); MOST_CROWD - 1];
-            self.split(d, &mut near[0..k - 1]);
+            self.split(d, &mut near[..k - 1]);
         }
     }
 }

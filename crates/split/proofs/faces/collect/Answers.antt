@@ -1,5 +1,5 @@
 use Rattle.std.proofs.Common.{◌≡◌, List, [], ◌∷◌, ◌++◌, map, get_or, take, vec_items, vec_len, vec_capacity, sym, ap, ◌∙◌, arith}
-use Rattle.std.proofs.lemmas.List.{map_push, take_all}
+use Rattle.std.proofs.lemmas.List.{map_push}
 use Rattle.rules.specs.Choosing.{listed}
 use Rattle.rules.specs.Clusters.{owner}
 use Rattle.split.specs.declared.faces.Face.{Face}
@@ -31,8 +31,3 @@ loop-member-preserved c =
           let old = collect_known ms i no_member l (sym (w.if-not-is_known.ensures ∙ known _ c.as_slice.ensures.value)) in
           (ap vec_items w.faces-is ∙ same.0 ∙ ap (map (face [])) (sym old), omega (arith, ap vec_len w.faces-is), ap vec_capacity w.faces-is ∙ same.2)
     ]
-
-pub returns : goal.returns
-returns c =
-    let e = take_all c.loop-member.member-index c.args.members.now c.loop-member-test.false in
-    record { all = c.loop-member.invariant.0 ∙ ap (λ l. map (face []) (earliest (entries l))) e; few = omega arith; capacity = c.loop-member.invariant.2 ∙ c.clear.ensures.capacity }
