@@ -2,7 +2,8 @@
 use Rattle.std.proofs.Common.{◌≡◌, ℕ, zero, suc, ◌+◌, ◌-◌, ◌<◌, ◌≤◌, Bool, true, false, cond, not, ◌&&◌, ◌||◌, leb, List, [], ◌∷◌, ◌++◌, map, length, take, is_some, Some, None, filter, Option, sym, refl, ap, ◌∙◌, subst, arith}
 use Rattle.std.specs.List.{AllByRecursion}
 use Rattle.std.specs.Option.{option_map}
-use Rattle.std.proofs.ByRecursion.{all_kept_by}
+use Rattle.std.proofs.ByRecursion.{All-weaker, all_kept_by}
+use Rattle.std.proofs.lemmas.Simd.{map-map}
 use Rattle.std.proofs.lemmas.List.{append_assoc, append-nil, length-map, length_push}
 use Rattle.std.proofs.lemmas.List.Sums.{length-filter, count_by-le-length}
 use Rattle.std.proofs.lemmas.Bool.{eq-eqb, le-leb, lt-leb}
@@ -27,22 +28,18 @@ kept_agree : {X : Type 0} (p q : X → Bool) (xs : List X) → AllByRecursion (�
 kept_agree p q [] a = refl
 kept_agree p q (x ∷ xs) a = ap (λ b. cond b (x ∷ filter p xs) (filter p xs)) a.0 ∙ ap (λ l. cond (q x) (x ∷ l) l) (kept_agree p q xs a.1)
 
-all_under : {X : Type 0} (P Q : X → Type 0) → ((x : X) → P x → Q x) → (xs : List X) → AllByRecursion P xs → AllByRecursion Q xs
-all_under P Q h [] a = tt
-all_under P Q h (x ∷ xs) a = (h x a.0, all_under P Q h xs a.1)
-
 order_agrees : {X : Type 0} (r s : X → Rank) (xs : List X) → AllByRecursion (λ x. r x ≡ s x) xs → in_order r xs ≡ in_order s xs
 order_agrees r s [] a = refl
 order_agrees {X = X} r s (x ∷ xs) a =
     ap (among r x) (order_agrees r s xs a.1)
     ∙ ap (λ l. l ++ x ∷ filter (λ y. not (lower (r y) (r x))) zs) (kept_agree (λ y. lower (r y) (r x)) (λ y. lower (s y) (s x)) zs low)
-    ∙ ap (λ l. filter (λ y. lower (s y) (s x)) zs ++ x ∷ l) (kept_agree (λ y. not (lower (r y) (r x))) (λ y. not (lower (s y) (s x))) zs (all_under _ _ (λ y e. ap not e) zs low))
+    ∙ ap (λ l. filter (λ y. lower (s y) (s x)) zs ++ x ∷ l) (kept_agree (λ y. not (lower (r y) (r x))) (λ y. not (lower (s y) (s x))) zs (All-weaker _ _ (λ y e. ap not e) zs low))
   where
     zs : List X
     zs = in_order s xs
 
     low : AllByRecursion (λ y. lower (r y) (r x) ≡ lower (s y) (s x)) (in_order s xs)
-    low = all_under (λ y. r y ≡ s y) (λ y. lower (r y) (r x) ≡ lower (s y) (s x)) (λ y e. ap (λ z. lower z (r x)) e ∙ ap (lower (s y)) a.0) (in_order s xs) (all_in_order (λ y. r y ≡ s y) s xs a.1)
+    low = All-weaker (λ y. r y ≡ s y) (λ y. lower (r y) (r x) ≡ lower (s y) (s x)) (λ y e. ap (λ z. lower z (r x)) e ∙ ap (lower (s y)) a.0) (in_order s xs) (all_in_order (λ y. r y ≡ s y) s xs a.1)
 
 -- ---- the nearest, by stand-ins and by owners
 
@@ -53,10 +50,6 @@ seen m s e = record { first = cost m (s ∷ e ∷ []); second = e.position }
 nearness_of : (m : Meaning) (es : List Entry) (s e : Entry) → Stands es s → Stands es e → seen m s e ≡ nearness m es (owner s) (owner e)
 unfolding seen
 nearness_of m es s e p q = sym (λ i. record { first = cost m (p.0 i ++ q.0 i); second = q.1 i })
-
-map_map : {X Y Z : Type 0} (f : Y → Z) (g : X → Y) (xs : List X) → map f (map g xs) ≡ map (λ x. f (g x)) xs
-map_map f g [] = refl
-map_map f g (x ∷ xs) = ap (λ l. f (g x) ∷ l) (map_map f g xs)
 
 -- ranked before or after a function, the n least are the same
 least_map : {X Y : Type 0} (rank : Y → Rank) (f : X → Y) (n : ℕ) (xs : List X) → map f (lowest_ranked (λ x. rank (f x)) n xs) ≡ lowest_ranked rank n (map f xs)
@@ -69,9 +62,9 @@ pub nearest_names : (m : Meaning) (es : List Entry) (s : Entry) (n : ℕ) (os : 
 unfolding seen
 nearest_names m es s n os p a =
     ap names (sym (leasts_map rank_of (neighbour m s) n os))
-    ∙ map_map (λ x. x.owner) (neighbour m s) (leasts (λ e. rank_of (neighbour m s e)) n os)
+    ∙ map-map (λ x. x.owner) (neighbour m s) (leasts (λ e. rank_of (neighbour m s e)) n os)
     ∙ ap (map owner) (leasts_of_keeper (seen m s) n os)
-    ∙ ap (λ l. map owner (take n l)) (order_agrees (seen m s) (λ e. nearness m es (owner s) (owner e)) os (all_under (Stands es) _ (λ e q. nearness_of m es s e p q) os a))
+    ∙ ap (λ l. map owner (take n l)) (order_agrees (seen m s) (λ e. nearness m es (owner s) (owner e)) os (All-weaker (Stands es) _ (λ e q. nearness_of m es s e p q) os a))
     ∙ least_map (nearness m es (owner s)) owner n os
 
 -- ---- one part more

@@ -70,6 +70,8 @@ fn a_fifth(rt: HostRuntime) -> Result<(), Fail> {
     ];
     s.part(&Interval::up_to(100), &held, &cluster(5), 2);
     assert!(rt; is_split_in(&s, Range { low: 10, high: 22 }, Range { low: 30, high: 31 }));
+    let places = s.members().iter().map(|member| member.part);
+    assert!(rt; places.eq([Some(0), Some(1), Some(0), Some(1), Some(0), Some(0)]));
     Ok(())
 }
 

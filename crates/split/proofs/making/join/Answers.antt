@@ -1,6 +1,6 @@
-use Rattle.std.proofs.Common.{◌<◌, cond, ◌∷◌, ◌++◌, map, length, get_or, drop, set, Some, sym, ap, ◌∙◌, arith}
+use Rattle.std.proofs.Common.{◌<◌, cond, ◌∷◌, length, get_or, set, Some, sym, ap, ◌∙◌, arith}
 use Rattle.std.proofs.lemmas.List.Edits.{map_over_more}
-use Rattle.std.proofs.lemmas.List.{get_or_default, take_all, drop_all, append-nil}
+use Rattle.std.proofs.lemmas.List.{get_or_default}
 use Rattle.split.specs.declared.faces.Face.{Face}
 use Rattle.split.specs.Near.{names, joined}
 use Rattle.split.proofs.Blanks.{no_face}
@@ -22,10 +22,3 @@ loop-face-preserved c =
       | then-joins w ↦ w.faces-is ∙ ap (set fs i) (ap (λ b. cond b with_part x) (sym w.if-joins.true ∙ c.joins.ensures)) ∙ over
       | else-joins w ↦ w.faces-is ∙ ap (set fs i) (ap (λ b. cond b with_part x) (sym w.if-joins.false ∙ c.joins.ensures)) ∙ over
     ]
-
-pub returns : goal.returns
-returns c =
-    let f : Face → Face = joined (c.args.seed ∷ names c.args.near.now) c.args.part in
-    let fs = c.args.faces.now in
-    let i = c.loop-face.face-index in
-    c.loop-face.invariant ∙ ap (λ l. map f l ++ drop i fs) (take_all i fs c.loop-face-test.false) ∙ ap (λ l. map f fs ++ l) (drop_all i fs c.loop-face-test.false) ∙ append-nil (map f fs)

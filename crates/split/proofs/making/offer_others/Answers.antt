@@ -1,5 +1,5 @@
 use Rattle.std.proofs.Common.{◌≡◌, ◌+◌, cond, [], ◌∷◌, ◌++◌, map, get_or, take, sym, ap, ◌∙◌, subst}
-use Rattle.std.proofs.lemmas.List.{map_push, append-nil, take_all}
+use Rattle.std.proofs.lemmas.List.{map_push, append-nil}
 use Rattle.keeper.specs.Keeping.{Keeps}
 use Rattle.rules.specs.declared.Entry.{Entry}
 use Rattle.split.specs.declared.near.Neighbour.{Neighbour}
@@ -31,12 +31,3 @@ loop-face-preserved g c =
           let e : next ≡ given = ap (map nb) (more ∙ ap (λ b. so ++ cond b (x ∷ []) []) (sym c.is_other.ensures ∙ w.if-is_other.false) ∙ append-nil so) in
           subst (λ l. Keeps rank_of no_neighbour l next) (sym w.near-is) (subst (Keeps rank_of no_neighbour c.loop-face.near) (sym e) c.loop-face.invariant)
     ]
-
-pub loop-face-init : goal.loop-face-init
-loop-face-init g c = c.clear.ensures.keeps
-
-pub returns : goal.returns
-returns g c =
-    let m = g.D.Domain.meaning c.args.d.now in
-    let seed = c.args.seed.now in
-    record { keeps = subst (λ l. Keeps rank_of no_neighbour c.loop-face.near (map (neighbour m seed) (others_than seed (remaining l)))) (take_all c.loop-face.face-index c.args.faces.now c.loop-face-test.false) c.loop-face.invariant }
