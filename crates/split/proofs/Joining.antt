@@ -1,17 +1,17 @@
--- A leftover owner joins a part: marks and boxes beside the rules' parts.
-use Rattle.std.proofs.Common.{◌≡◌, ℕ, zero, suc, ◌+◌, ◌-◌, ◌<◌, ◌≤◌, Bool, true, false, cond, ◌&&◌, ◌||◌, eqb, List, [], ◌∷◌, ◌++◌, map, length, get_or, set, Some, None, filter, Option, sym, refl, ap, ◌∙◌, subst, inl, inr, arith}
+-- A leftover owner joins a part: members and boxes beside the rules' parts.
+use Rattle.std.proofs.Common.{◌≡◌, ℕ, zero, suc, ◌+◌, ◌-◌, ◌<◌, ◌≤◌, Bool, true, false, cond, ◌||◌, eqb, List, [], ◌∷◌, ◌++◌, map, length, get_or, set, Some, None, Option, sym, refl, ap, ◌∙◌, subst, inl, inr, arith}
 use Rattle.std.specs.List.{AllByRecursion}
 use Rattle.std.specs.Option.{option_map}
 use Rattle.std.proofs.ByRecursion.{All-get_or, All-from_get_or, All-set}
+use Rattle.std.proofs.lemmas.List.Elements.{filter_agree}
 use Rattle.std.proofs.lemmas.List.{get_or-map, get_or-set_same, map-set, length-map, length_push}
 use Rattle.std.proofs.lemmas.Bool.{eqb-true, eq-eqb, ne_eqb, ltb-true, ltb-false}
 use Rattle.std.proofs.lemmas.Bool.Decides.{nat_tests}
 use Rattle.domain.specs.Meaning.{Meaning}
 use Rattle.domain.specs.Boxes.{box_loss}
 use Rattle.rules.specs.declared.Entry.{Entry}
-use Rattle.rules.specs.declared.Held.{Held}
 use Rattle.rules.specs.Choosing.{In, lowest, listed}
-use Rattle.rules.specs.Clusters.{owner, owners, members, cost}
+use Rattle.rules.specs.Clusters.{owner, owners, cost}
 use Rattle.rules.specs.States.{stand_in}
 use Rattle.rules.specs.Promise.{one}
 use Rattle.rules.specs.Split.{part, growth, joins_first, settle}
@@ -19,11 +19,13 @@ use Rattle.rules.proofs.Totals.{eqb_sym, one_self, total_push, in_total, length_
 use Rattle.rules.proofs.Numbers.{times, listed_le, in_listed, listed_in, times_different, different_once, lowest_le, lowest_some}
 use Rattle.rules.proofs.Parts.{grouped}
 use Rattle.rules.proofs.Around.{boxes_stand}
+use Rattle.split.specs.declared.Member.{Member}
 use Rattle.split.specs.declared.Part.{Part}
 use Rattle.split.specs.Faces.{place_in}
-use Rattle.split.specs.Parted.{says, marked, part_of}
-use Rattle.split.specs.Settling.{box_growth, FirstLeastGrown, remarked, mark_in, Beside, ApartIn}
+use Rattle.split.specs.Parted.{of_part, says, marked, part_of}
+use Rattle.split.specs.Settling.{box_growth, FirstLeastGrown, moved, member, Beside, ApartIn}
 use Rattle.split.proofs.Blanks.{no_part}
+use Rattle.split.proofs.Marked.{marked_of}
 
 -- ---- places
 
@@ -112,30 +114,21 @@ grouped_joined o [] b w l = absurd (omega (arith, l))
 grouped_joined o (p ∷ ps) zero w l = omega (arith, total_push (one o) p w)
 grouped_joined o (p ∷ ps) (suc b) w l = omega (arith, grouped_joined o ps b w (omega (arith, l)))
 
--- ---- marks and records
+-- ---- members and records
 
-marks_joined : (c b w : ℕ) (ps : List (List ℕ)) (hs : List Held) → b < length ps → place_in ps w ≡ None → remarked c w b hs (map (mark_in c ps) hs) ≡ map (mark_in c (join_at b w ps)) hs
-marks_joined c b w ps [] l n = refl
-marks_joined c b w ps (h ∷ hs) l n =
-    ap (λ x. x ∷ remarked c w b hs (map (mark_in c ps) hs)) (go (eqb h.label c) (place_joined ps b w (owner h.entry) l n)) ∙ ap (λ l. mark_in c (join_at b w ps) h ∷ l) (marks_joined c b w ps hs l n)
+members_joined : (b w : ℕ) (ps : List (List ℕ)) (es : List Entry) → b < length ps → place_in ps w ≡ None → map (moved w b) (map (member ps) es) ≡ map (member (join_at b w ps)) es
+members_joined b w ps [] l n = refl
+members_joined b w ps (e ∷ es) l n =
+    ap (λ x. x ∷ map (moved w b) (map (member ps) es)) (go (eqb (owner e) w) ∙ ap (λ o. of_part o e) (sym (place_joined ps b w (owner e) l n))) ∙ ap (λ l. member (join_at b w ps) e ∷ l) (members_joined b w ps es l n)
   where
-    go : (t : Bool) → place_in (join_at b w ps) (owner h.entry) ≡ cond (eqb (owner h.entry) w) (Some b) (place_in ps (owner h.entry))
-        → cond (t && eqb (owner h.entry) w) (Some b) (cond t (place_in ps (owner h.entry)) None) ≡ cond t (place_in (join_at b w ps) (owner h.entry)) None
-    go true e = sym e
-    go false e = refl
+    go : (t : Bool) → cond t (of_part (Some b) e) (member ps e) ≡ of_part (cond t (Some b) (place_in ps (owner e))) e
+    go true = refl
+    go false = refl
 
--- what is marked as of part j is what the part's owners have
-pub marked_part : (c j : ℕ) (ps : List (List ℕ)) (hs : List Held) → ((o : ℕ) → grouped o ps ≤ 1) → marked j (map (mark_in c ps) hs) hs ≡ part (members c hs) (get_or ps j [])
-marked_part c j ps [] once = refl
-marked_part c j ps (h ∷ hs) once = go (eqb h.label c) (marked_part c j ps hs once) (place_tells (owner h.entry) ps j (once (owner h.entry)))
-  where
-    rest : List Entry
-    rest = marked j (map (mark_in c ps) hs) hs
-
-    go : (t : Bool) → marked j (map (mark_in c ps) hs) hs ≡ part (members c hs) (get_or ps j []) → says j (place_in ps (owner h.entry)) ≡ listed (owner h.entry) (get_or ps j [])
-        → cond (says j (cond t (place_in ps (owner h.entry)) None)) (h.entry ∷ rest) rest ≡ part (map (λ x. x.entry) (cond t (h ∷ filter (λ x. eqb x.label c) hs) (filter (λ x. eqb x.label c) hs))) (get_or ps j [])
-    go true ih s = ap (λ z. cond z (h.entry ∷ rest) rest) s ∙ ap (λ l. cond (listed (owner h.entry) (get_or ps j [])) (h.entry ∷ l) l) ih
-    go false ih s = ih
+-- the members of part j are what the part's owners have
+pub marked_part : (j : ℕ) (ps : List (List ℕ)) (es : List Entry) → ((o : ℕ) → grouped o ps ≤ 1) → marked j (map (member ps) es) ≡ part es (get_or ps j [])
+marked_part j ps es once =
+    marked_of j (λ e. place_in ps (owner e)) es ∙ filter_agree (λ e. says j (place_in ps (owner e))) (λ e. listed (owner e) (get_or ps j [])) (λ e. place_tells (owner e) ps j (once (owner e))) es
 
 -- ---- the part that grows least
 
@@ -215,34 +208,34 @@ all_some es (p ∷ ps) a h = (some_record es p a.0 (λ o. omega (arith, h o)), a
 
 -- ---- one leftover owner
 
-module _ (m : Meaning) (c : ℕ) (hs : List Held) (ps : List (List ℕ)) (w : ℕ) (ws : List ℕ) (e : Entry) (marks out : List (Option ℕ)) (boxes told : List Part) (b : ℕ)
-    (so : Beside m c hs ps marks boxes) (apart : ApartIn (members c hs) ps (w ∷ ws)) (stands : stand_in (members c hs) w ≡ e ∷ []) (first : FirstLeastGrown m e boxes b)
-    (remark : out ≡ remarked c w b hs marks) (retell : told ≡ set boxes b (part_of m (marked b out hs))) where
-  found : (b < length ps) × (settle m (members c hs) ps w ≡ join_at b w ps)
-  found = settles_at m (members c hs) w e stands ps boxes b so.told (all_some (members c hs) ps apart.some (λ o. omega (arith, apart.once o))) first
+module _ (m : Meaning) (es : List Entry) (ps : List (List ℕ)) (w : ℕ) (ws : List ℕ) (e : Entry) (ms out : List Member) (boxes told : List Part) (b : ℕ)
+    (so : Beside m es ps ms boxes) (apart : ApartIn es ps (w ∷ ws)) (stands : stand_in es w ≡ e ∷ []) (first : FirstLeastGrown m e boxes b)
+    (move : out ≡ map (moved w b) ms) (retell : told ≡ set boxes b (part_of m (marked b out))) where
+  found : (b < length ps) × (settle m es ps w ≡ join_at b w ps)
+  found = settles_at m es w e stands ps boxes b so.told (all_some es ps apart.some (λ o. omega (arith, apart.once o))) first
 
   fresh : place_in ps w ≡ None
-  fresh = place_none w ps (omega (arith, apart.once w, one_self w, different_once w (map owner (members c hs))))
+  fresh = place_none w ps (omega (arith, apart.once w, one_self w, different_once w (map owner es)))
 
-  after_apart : ApartIn (members c hs) (join_at b w ps) ws
+  after_apart : ApartIn es (join_at b w ps) ws
   after_apart = record {
     some = All-set (λ p. 1 ≤ length p) ps b (get_or ps b [] ++ w ∷ []) (omega (arith, length_push (get_or ps b []) w)) apart.some;
     once = λ o. omega (arith, apart.once o, grouped_joined o ps b w found.0);
   }
 
-  marks_are : out ≡ map (mark_in c (join_at b w ps)) hs
-  marks_are = remark ∙ ap (remarked c w b hs) so.marked ∙ marks_joined c b w ps hs found.0 fresh
+  members_are : out ≡ map (member (join_at b w ps)) es
+  members_are = move ∙ ap (map (moved w b)) so.placed ∙ members_joined b w ps es found.0 fresh
 
-  box_is : marked b out hs ≡ part (members c hs) (get_or ps b [] ++ w ∷ [])
+  box_is : marked b out ≡ part es (get_or ps b [] ++ w ∷ [])
   box_is =
-      ap (λ l. marked b l hs) marks_are ∙ marked_part c b (join_at b w ps) hs (λ o. omega (arith, after_apart.once o, different_once o (map owner (members c hs))))
-      ∙ ap (part (members c hs)) (get_or-set_same ps b (get_or ps b [] ++ w ∷ []) [] found.0)
+      ap (marked b) members_are ∙ marked_part b (join_at b w ps) es (λ o. omega (arith, after_apart.once o, different_once o (map owner es)))
+      ∙ ap (part es) (get_or-set_same ps b (get_or ps b [] ++ w ∷ []) [] found.0)
 
-  pub settled_beside : Beside m c hs (settle m (members c hs) ps w) out told
-  settled_beside = subst (λ qs. Beside m c hs qs out told) (sym found.1) (record {
-    marked = marks_are;
-    told = retell ∙ ap (λ l. set l b (part_of m (marked b out hs))) so.told ∙ ap (λ l. set (map (λ p. part_of m (part (members c hs) p)) ps) b (part_of m l)) box_is ∙ sym (map-set (λ p. part_of m (part (members c hs) p)) ps b (get_or ps b [] ++ w ∷ []));
+  pub settled_beside : Beside m es (settle m es ps w) out told
+  settled_beside = subst (λ qs. Beside m es qs out told) (sym found.1) (record {
+    placed = members_are;
+    told = retell ∙ ap (λ l. set l b (part_of m (marked b out))) so.told ∙ ap (λ l. set (map (λ p. part_of m (part es p)) ps) b (part_of m l)) box_is ∙ sym (map-set (λ p. part_of m (part es p)) ps b (get_or ps b [] ++ w ∷ []));
   })
 
-  pub settled_apart : ApartIn (members c hs) (settle m (members c hs) ps w) ws
-  settled_apart = subst (λ qs. ApartIn (members c hs) qs ws) (sym found.1) after_apart
+  pub settled_apart : ApartIn es (settle m es ps w) ws
+  settled_apart = subst (λ qs. ApartIn es qs ws) (sym found.1) after_apart

@@ -1,4 +1,5 @@
 pub mod Blanks
+pub mod Chains
 pub mod Owners
 pub mod Marked
 pub mod Remaining

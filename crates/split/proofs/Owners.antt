@@ -1,7 +1,7 @@
 -- Each owner's earliest record stands for him.
-use Rattle.std.proofs.Common.{◌≡◌, ℕ, ◌+◌, ◌<◌, Bool, true, false, cond, not, ◌||◌, eqb, List, [], ◌∷◌, ◌++◌, map, length, get_or, take, filter, sym, refl, ap, ◌∙◌}
+use Rattle.std.proofs.Common.{◌≡◌, ℕ, ◌+◌, ◌<◌, Bool, true, false, cond, not, ◌||◌, eqb, List, [], ◌∷◌, ◌++◌, map, length, get_or, take, filter, Option, sym, refl, ap, ◌∙◌}
 use Rattle.std.specs.List.{AllByRecursion}
-use Rattle.std.proofs.lemmas.List.{map-append, append-nil}
+use Rattle.std.proofs.lemmas.List.{map-append, map_more, map_push, append-nil}
 use Rattle.std.proofs.lemmas.List.Elements.{filter-append, filter_more}
 use Rattle.std.proofs.lemmas.Bool.{eqb-true, eq-eqb, not-true}
 use Rattle.rules.specs.declared.Entry.{Entry}
@@ -11,7 +11,9 @@ use Rattle.rules.specs.Clusters.{owner, owners, records_of, members}
 use Rattle.rules.specs.States.{stand_in}
 use Rattle.rules.specs.Split.{since}
 use Rattle.rules.proofs.Totals.{true_false, eqb_sym}
+use Rattle.split.specs.declared.Member.{Member}
 use Rattle.split.specs.Faces.{earliest, face, owner_of}
+use Rattle.split.specs.Parted.{of_part, entries}
 
 -- ---- filters
 
@@ -43,6 +45,21 @@ members_more c hs i d l =
     one : (b : Bool) → map (λ h. h.entry) (cond b (get_or hs i d ∷ []) []) ≡ cond b ((get_or hs i d).entry ∷ []) []
     one true = refl
     one false = refl
+
+-- all of one part, or of none
+module _ (o : Option ℕ) (c : ℕ) (hs : List Held) (i : ℕ) (d : Held) (l : i < length hs) where
+  gather_one : (b : Bool) → eqb (get_or hs i d).label c ≡ b → map (of_part o) (members c (take (i + 1) hs)) ≡ map (of_part o) (members c (take i hs)) ++ cond b (of_part o (get_or hs i d).entry ∷ []) []
+  gather_one b t = ap (map (of_part o)) (members_more c hs i d l ∙ ap (λ t. members c (take i hs) ++ cond t ((get_or hs i d).entry ∷ []) []) t) ∙ go b
+    where
+      go : (b : Bool) → map (of_part o) (members c (take i hs) ++ cond b ((get_or hs i d).entry ∷ []) []) ≡ map (of_part o) (members c (take i hs)) ++ cond b (of_part o (get_or hs i d).entry ∷ []) []
+      go true = map_push (of_part o) (members c (take i hs)) (get_or hs i d).entry
+      go false = map-append (of_part o) (members c (take i hs)) []
+
+  pub gather_takes : eqb (get_or hs i d).label c ≡ true → map (of_part o) (members c (take (i + 1) hs)) ≡ map (of_part o) (members c (take i hs)) ++ of_part o (get_or hs i d).entry ∷ []
+  gather_takes t = gather_one true t
+
+  pub gather_passes : eqb (get_or hs i d).label c ≡ false → map (of_part o) (members c (take (i + 1) hs)) ≡ map (of_part o) (members c (take i hs))
+  gather_passes f = gather_one false f ∙ append-nil (map (of_part o) (members c (take i hs)))
 
 -- ---- the earliest records
 
@@ -113,22 +130,19 @@ stands (e ∷ es) = (own (eqb (owner e) (owner e)) (eq-eqb (owner e) (owner e) r
         let apart : eqb (owner e) (owner f) ≡ false = eqb_sym (owner e) (owner f) ∙ not-true (eqb (owner f) (owner e)) n in
         (ap (λ t. take 1 (cond t (e ∷ records_of (owner f) es) (records_of (owner f) es))) apart ∙ s.0, ap (λ t. cond t e.position (since (owner f) es)) apart ∙ s.1)
 
--- ---- the members' earliest records, one held record more
+-- ---- the members' earliest records, one member more
 
-module _ (c : ℕ) (hs : List Held) (i : ℕ) (d : Held) (l : i < length hs) where
-  pub collect_passes : eqb (get_or hs i d).label c ≡ false → earliest (members c (take (i + 1) hs)) ≡ earliest (members c (take i hs))
-  collect_passes f = ap earliest (members_more c hs i d l ∙ ap (λ t. members c (take i hs) ++ cond t ((get_or hs i d).entry ∷ []) []) f ∙ append-nil (members c (take i hs)))
+module _ (ms : List Member) (i : ℕ) (d : Member) (l : i < length ms) where
+  collect_one : (b : Bool) → listed (owner (get_or ms i d).entry) (map owner (earliest (entries (take i ms)))) ≡ b → earliest (entries (take (i + 1) ms)) ≡ earliest (entries (take i ms)) ++ cond b [] ((get_or ms i d).entry ∷ [])
+  collect_one b k =
+      ap earliest (map_more (λ x. x.entry) ms i d l) ∙ earliest_push (entries (take i ms)) (get_or ms i d).entry
+      ∙ ap (λ z. earliest (entries (take i ms)) ++ cond z [] ((get_or ms i d).entry ∷ [])) k
 
-  collect_one : (b : Bool) → eqb (get_or hs i d).label c ≡ true → listed (owner (get_or hs i d).entry) (map owner (earliest (members c (take i hs)))) ≡ b → earliest (members c (take (i + 1) hs)) ≡ earliest (members c (take i hs)) ++ cond b [] ((get_or hs i d).entry ∷ [])
-  collect_one b t k =
-      ap earliest (members_more c hs i d l ∙ ap (λ z. members c (take i hs) ++ cond z ((get_or hs i d).entry ∷ []) []) t)
-      ∙ earliest_push (members c (take i hs)) (get_or hs i d).entry ∙ ap (λ z. earliest (members c (take i hs)) ++ cond z [] ((get_or hs i d).entry ∷ [])) k
+  pub collect_known : listed (owner (get_or ms i d).entry) (map owner (earliest (entries (take i ms)))) ≡ true → earliest (entries (take (i + 1) ms)) ≡ earliest (entries (take i ms))
+  collect_known k = collect_one true k ∙ append-nil (earliest (entries (take i ms)))
 
-  pub collect_known : eqb (get_or hs i d).label c ≡ true → listed (owner (get_or hs i d).entry) (map owner (earliest (members c (take i hs)))) ≡ true → earliest (members c (take (i + 1) hs)) ≡ earliest (members c (take i hs))
-  collect_known t k = collect_one true t k ∙ append-nil (earliest (members c (take i hs)))
-
-  pub collect_new : eqb (get_or hs i d).label c ≡ true → listed (owner (get_or hs i d).entry) (map owner (earliest (members c (take i hs)))) ≡ false → earliest (members c (take (i + 1) hs)) ≡ earliest (members c (take i hs)) ++ (get_or hs i d).entry ∷ []
-  collect_new t k = collect_one false t k
+  pub collect_new : listed (owner (get_or ms i d).entry) (map owner (earliest (entries (take i ms)))) ≡ false → earliest (entries (take (i + 1) ms)) ≡ earliest (entries (take i ms)) ++ (get_or ms i d).entry ∷ []
+  collect_new k = collect_one false k
 
 pub face_owners : (ps : List (List ℕ)) (fs : List Entry) → map owner_of (map (face ps) fs) ≡ map owner fs
 face_owners ps [] = refl

@@ -2,10 +2,11 @@
 use Rattle.std.specs.Prelude.{ℕ, suc, Bool, cond, not, List, [], ◌∷◌, is_some, Some, None, filter, Option, ◌==◌}
 use Rattle.std.specs.Option.{option_map}
 use Rattle.rules.specs.declared.Entry.{Entry}
-use Rattle.rules.specs.declared.Held.{Held}
 use Rattle.rules.specs.Choosing.{listed}
 use Rattle.rules.specs.Clusters.{owner}
+use Rattle.split.specs.declared.Member.{Member}
 use Rattle.split.specs.declared.faces.Face.{Face}
+use Rattle.split.specs.Parted.{of_part}
 
 -- each owner's earliest record
 abbrev pub earliest : List Entry → List Entry
@@ -32,10 +33,6 @@ abbrev pub place_among : List Face → ℕ → Option ℕ
 place_among [] w = None
 place_among (f ∷ fs) w = cond (owner_of f == w) f.part (place_among fs w)
 
--- the mark of a held record
-abbrev pub mark_among : ℕ → List Face → Held → Option ℕ
-mark_among c fs h = cond (h.label == c) (place_among fs (owner h.entry)) None
-
--- its mark where the cluster is one part
-abbrev pub whole_mark : ℕ → Held → Option ℕ
-whole_mark c h = cond (h.label == c) (Some 0) None
+-- a member, of its owner's part
+abbrev pub placed : List Face → Member → Member
+placed fs x = of_part (place_among fs (owner x.entry)) x.entry

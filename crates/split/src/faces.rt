@@ -1,9 +1,10 @@
 ghost use Rattle.std.specs.Prelude.{◌≡◌, ◌≤◌, [], map, length, vec_len, vec_capacity};
 ghost use Rattle.rules.specs.Choosing.{listed};
-ghost use Rattle.rules.specs.Clusters.{members};
 ghost use Rattle.split.specs.Faces.{earliest, face, owner_of, lacks_part, place_among};
+ghost use Rattle.split.specs.Parted.{entries};
 
-use rules::{Entry, Held};
+use crate::Member;
+use rules::Entry;
 
 // An owner of the cluster: his earliest record in it, which stands for him, and the place of his part, once he has one.
 #[derive(Clone, Copy)]
@@ -12,42 +13,40 @@ pub(crate) struct Face {
     pub part: Option<usize>,
 }
 
-pub(crate) fn lacks_part(face: &Face) -> bool
-    ensures { result ≡ lacks_part face.now }
-{
-    match face.part {
-        Some(_) => false,
-        None => true,
+impl Face {
+    pub fn owner(&self) -> u32
+        ensures { result ≡ owner_of self.now }
+    {
+        self.stand_in.fed.owner
+    }
+
+    pub fn lacks_part(&self) -> bool
+        ensures { result ≡ lacks_part self.now }
+    {
+        self.part.is_none()
     }
 }
 
 fn is_known(faces: &[Face], owner: u32) -> bool
     ensures { result ≡ listed owner (map owner_of faces.now) }
 {
-    for face in faces {
-        if face.stand_in.fed.owner == owner {
-            return true;
-        }
-    }
-    false
+    faces.iter().any(|face| face.owner() == owner)
 }
 
-// The owners of the cluster, by their earliest records, none in a part.
-pub(crate) fn collect(held: &[Held], label: u32, faces: &mut Vec<Face>)
-    requires bare { faces.old.items ≡ [] }
-    requires room { length held.now ≤ vec_capacity faces.old }
-    ensures all { faces.new.items ≡ map (face []) (earliest (members label held.now)) }
-    ensures few { vec_len faces.new ≤ length held.now }
+// The owners of the members, by their earliest records, none in a part.
+pub(crate) fn collect(members: &[Member], faces: &mut Vec<Face>)
+    requires { length members.now ≤ vec_capacity faces.old }
+    ensures all { faces.new.items ≡ map (face []) (earliest (entries members.now)) }
+    ensures few { vec_len faces.new ≤ length members.now }
     ensures capacity { vec_capacity faces.new ≡ vec_capacity faces.old }
 {
-    for h in held {
-        if h.label == label {
-            if !is_known(faces.as_slice(), h.entry.fed.owner) {
-                faces.push_reserved(Face {
-                    stand_in: h.entry,
-                    part: None,
-                });
-            }
+    faces.clear();
+    for member in members {
+        if !is_known(faces.as_slice(), member.entry.fed.owner) {
+            faces.push_reserved(Face {
+                stand_in: member.entry,
+                part: None,
+            });
         }
     }
 }
@@ -56,10 +55,8 @@ pub(crate) fn collect(held: &[Held], label: u32, faces: &mut Vec<Face>)
 pub(crate) fn place_of(faces: &[Face], owner: u32) -> Option<usize>
     ensures { result ≡ place_among faces.now owner }
 {
-    for face in faces {
-        if face.stand_in.fed.owner == owner {
-            return face.part;
-        }
-    }
-    None
+    faces
+        .iter()
+        .find(|face| face.owner() == owner)
+        .and_then(|face| face.part)
 }

@@ -3,13 +3,13 @@
 #![tactic(auto)]
 
 use domain::{PLACES, Range};
+use rules::Entry;
 
 mod boxes;
 mod faces;
 mod making;
-mod marks;
+mod members;
 mod near;
-mod parting;
 mod settling;
 mod splitter;
 
@@ -20,6 +20,13 @@ const MOST_HELD: usize = 256;
 
 // The largest crowd.
 const MOST_CROWD: usize = 32;
+
+// A record of the cluster that is parted, and the place of its part, once it has one.
+#[derive(Clone, Copy)]
+pub struct Member {
+    pub entry: Entry,
+    pub part: Option<usize>,
+}
 
 // A part: the least box around its records, and the box's loss.
 #[derive(Clone, Copy)]

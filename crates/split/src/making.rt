@@ -7,7 +7,7 @@ ghost use Rattle.rules.specs.Split.{next_part};
 ghost use Rattle.split.specs.Faces.{earliest, face, owner_of, lacks_part};
 ghost use Rattle.split.specs.Near.{rank_of, no_neighbour, neighbour, names, remaining, others_than, joined, Cuts};
 
-use crate::faces::{Face, lacks_part};
+use crate::faces::Face;
 use crate::near::{Neighbour, is_among, seen_from};
 use domain::Domain;
 use rules::Entry;
@@ -16,31 +16,23 @@ use rules::Entry;
 fn count_remaining(faces: &[Face]) -> usize
     ensures { result ≡ length (remaining faces.now) }
 {
-    let mut n = 0;
-    for face in faces {
-        if lacks_part(face) {
-            n += 1;
-        }
-    }
-    n
+    faces.iter().filter(|face| face.lacks_part()).count()
 }
 
 // The stand-in of the first of them.
 fn first_remaining(faces: &[Face]) -> Option<Entry>
     ensures { result ≡ head (remaining faces.now) }
 {
-    for face in faces {
-        if lacks_part(face) {
-            return Some(face.stand_in);
-        }
-    }
-    None
+    faces
+        .iter()
+        .find(|face| face.lacks_part())
+        .map(|face| face.stand_in)
 }
 
 fn is_other(face: &Face, seed: &Entry) -> bool
     ensures { result ≡ (lacks_part face.now && not (listed (owner_of face.now) (owner seed.now ∷ []))) }
 {
-    lacks_part(face) && seed.fed.owner != face.stand_in.fed.owner
+    face.lacks_part() && seed.fed.owner != face.owner()
 }
 
 // The places become a keeper of the other owners that remain.
@@ -58,7 +50,7 @@ fn offer_others<D: Domain>(d: &D, faces: &[Face], seed: &Entry, near: &mut [Neig
 fn joins(face: &Face, seed: u32, near: &[Neighbour]) -> bool
     ensures { result ≡ (lacks_part face.now && listed (owner_of face.now) (seed ∷ names near.now)) }
 {
-    lacks_part(face) && (seed == face.stand_in.fed.owner || is_among(near, face.stand_in.fed.owner))
+    face.lacks_part() && (seed == face.owner() || is_among(near, face.owner()))
 }
 
 // The seed and those near it get the part.

@@ -59,10 +59,5 @@ pub(crate) fn seen_from<D: Domain>(d: &D, seed: &Entry, e: &Entry) -> Neighbour
 pub(crate) fn is_among(near: &[Neighbour], owner: u32) -> bool
     ensures { result ≡ listed owner (names near.now) }
 {
-    for n in near {
-        if n.owner == owner {
-            return true;
-        }
-    }
-    false
+    near.iter().any(|n| n.owner == owner)
 }

@@ -1,9 +1,0 @@
-use Rattle.std.proofs.Common.{◌≡◌, map, take, vec_items, vec_len, vec_capacity}
-use Rattle.split.specs.Faces.{mark_among}
-use Rattle.split.proofs.marks.mark.Given as goal
-
-abbrev pub invariant-loop-h : goal.invariant-loop-h
-invariant-loop-h l =
-    (vec_items l.marks ≡ map (mark_among l.label l.faces) (take l.h-index l.held))
-    × (vec_len l.marks ≡ l.h-index)
-    × (vec_capacity l.marks ≡ vec_capacity l.initial.marks)
