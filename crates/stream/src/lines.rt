@@ -6,7 +6,8 @@ ghost use Rattle.stream.specs.Writing.{released, Writes};
 
 use domain::{PLACES, Range};
 use release::{Line, Manner};
-use rules::{Entry, Held};
+use rules::Entry;
+use split::Member;
 
 // The line that writes a record.
 pub(crate) fn line_of(entry: &Entry, manner: Manner, number: u32, ranges: &[Range; PLACES]) -> Line
@@ -33,23 +34,22 @@ pub(crate) fn put(list: &mut [Line], line: Line) -> usize
     1
 }
 
-// Writes the records that are marked as of the part, as released in a box of that number and these ranges, at the
-// list's front, and answers how many.
+// Writes the members of the part, as released in a box of that number and these ranges, at the list's front, and answers
+// how many.
 pub(crate) fn write_part(
     list: &mut [Line],
-    held: &[Held],
-    marks: &[Option<usize>],
+    members: &[Member],
     part: usize,
     number: u32,
     ranges: &[Range; PLACES],
 ) -> usize
-    ensures written { length marks.now ≡ length held.now → length (marked part marks.now held.now) ≤ length list.old → Writes (map (released number ranges.now) (marked part marks.now held.now)) list.old list.new result }
+    ensures written { length (marked part members.now) ≤ length list.old → Writes (map (released number ranges.now) (marked part members.now)) list.old list.new result }
     ensures fits { result ≤ length list.old }
 {
     let mut n = 0;
-    for (h, mark) in held.iter().zip(marks) {
-        if *mark == Some(part) {
-            let line = line_of(&h.entry, Manner::Released, number, ranges);
+    for member in members {
+        if member.part == Some(part) {
+            let line = line_of(&member.entry, Manner::Released, number, ranges);
             n += put(&mut list[n..], line);
         }
     }

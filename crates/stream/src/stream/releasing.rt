@@ -35,8 +35,7 @@ impl<D: Domain> Stream<D> {
         let n = release_parts(
             &mut self.ledger,
             self.splitter.parts(),
-            self.splitter.marks(),
-            self.pool.held.as_slice(),
+            self.splitter.members(),
             list,
         );
         self.pool.close_cluster(label);

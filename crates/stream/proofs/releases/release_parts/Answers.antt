@@ -4,7 +4,7 @@ use Rattle.stream.proofs.Outputs.{Given, out_none, priced, low, enough, out_more
 use Rattle.stream.proofs.releases.release_parts.Goals as goal
 
 pub loop-j-init : goal.loop-j-init
-loop-j-init c = record { window = refl; out = λ m g k d given. out_none given; fits = omega arith }
+loop-j-init c = record { window = refl; out = λ m g k es given. out_none given; fits = omega arith }
 
 pub loop-j-preserved : goal.loop-j-preserved
 loop-j-preserved c =
@@ -17,11 +17,11 @@ loop-j-preserved c =
     let entered = c.enter-number.ensures in
     record {
       window = entered.window ∙ inv.window;
-      out = λ m g k d given.
-          let out = inv.out m g k d given in
+      out = λ m g k es given.
+          let out = inv.out m g k es given in
           let loss = priced given j l c.loop-j.ledger now n room out _ in
           let e = entered.entered m g (given.window ∙ sym inv.window) out.kept loss (low given j l c.loop-j.ledger now n room out) in
-          let w = c.write_part-n.ensures.written given.parted.long (enough given j l c.loop-j.ledger now n room out) in
+          let w = c.write_part-n.ensures.written (enough given j l c.loop-j.ledger now n room out) in
           out_more given j l c.loop-j.ledger now n room out _ c.enter-number.new.self c.write_part-n.new.list c.enter-number.result c.write_part-n.result e entered.counted w;
       fits = omega (arith, c.write_part-n.ensures.fits, length-between now n (length now));
     }
@@ -31,8 +31,8 @@ returns c =
     let inv = c.loop-j.invariant in
     record {
       window = inv.window;
-      out = λ m g k d crowd parted window kept numbers room.
-          let given : Given m g k d c.args.held.now c.args.marks.now c.args.parts.now c.args.ledger.now c.args.list.now = record { crowd = crowd; parted = parted; window = window; kept = kept; numbers = numbers; room = room } in
-          out_all given c.loop-j.j c.loop-j.ledger c.loop-j.list c.loop-j.n c.loop-j-test.false (inv.out m g k d given);
+      out = λ m g k es crowd parted window kept numbers room.
+          let given : Given m g k es c.args.members.now c.args.parts.now c.args.ledger.now c.args.list.now = record { crowd = crowd; parted = parted; window = window; kept = kept; numbers = numbers; room = room } in
+          out_all given c.loop-j.j c.loop-j.ledger c.loop-j.list c.loop-j.n c.loop-j-test.false (inv.out m g k es given);
       fits = inv.fits;
     }

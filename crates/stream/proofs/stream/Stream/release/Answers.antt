@@ -1,8 +1,8 @@
-use Rattle.std.proofs.Common.{◌≡◌, ◌≤◌, List, length, vec_items, sym, refl, ap, ◌∙◌, subst, arith}
+use Rattle.std.proofs.Common.{◌≡◌, ◌≤◌, List, length, vec_items, sym, refl, ap, ◌∙◌, arith}
 use Rattle.std.proofs.lemmas.List.{length-map}
 use Rattle.std.proofs.lemmas.Bool.{false≢true}
 use Rattle.rules.specs.declared.Held.{Held}
-use Rattle.rules.specs.Clusters.{size, members, others}
+use Rattle.rules.specs.Clusters.{members, others}
 use Rattle.ledger.specs.Ledgers.{ledger_boxes}
 use Rattle.rules.specs.Split.{parts}
 use Rattle.rules.proofs.Choices.{clusters_law}
@@ -12,7 +12,6 @@ use Rattle.pool.specs.Tables.{label_at, cluster_of}
 use Rattle.pool.proofs.Rows.{row_at}
 use Rattle.pool.proofs.Scans.{members_le}
 use Rattle.split.specs.Parted.{part_of, Parted}
-use Rattle.stream.specs.Releases.{PartsOut}
 use Rattle.stream.proofs.Arriving.{roomy_after}
 use Rattle.stream.proofs.Outputs.{few_parts, parted_at}
 use Rattle.stream.proofs.stream.Stream.release.Goals as goal
@@ -48,15 +47,12 @@ returns g c = record {
       let row : x ≡ cluster_of m hs label = c.index.ensures ∙ row_at m hs xs at x stands.table (omega (arith, found.within, ap length same)) ∙ ap (cluster_of m hs) labelled in
       let own : x.label ≡ label = ap (λ (y : Cluster). y.label) row in
       let second = c.as_slice-2.ensures.value in
-      let third = c.as_slice-3.ensures.value in
+      let es = members label hs in
       let one = c.part.ensures.parted (row ∙ ap (λ (hs : List Held). cluster_of m hs label) (sym second) ∙ ap (cluster_of m c.as_slice-2.result.now) (sym own)) (omega (arith, ap length second, between.few, limits.most_delay)) limits.crowd limits.most_crowd in
-      let parted : Parted m k label c.as_slice-3.result.now c.marks.result.now c.parts.result.now = parted_at m k own (second ∙ sym third) (sym c.marks.ensures) (sym c.parts.ensures) one in
-      let es = members label c.as_slice-3.result.now in
-      let own_members : es ≡ members label hs = ap (members label) third in
-      let few : length c.parts.result.now ≤ length es = omega (arith, ap length parted.told, length-map (parts m k es) (part_of m), few_parts m k es (omega (arith, limits.crowd)) (subst (λ ys. k ≤ size ys) (sym own_members) large)) in
-      let fewer : length es ≤ length hs = omega (arith, ap length own_members, members_le label hs) in
-      let out = c.release_parts-n.ensures.out m s.settings k label (omega (arith, limits.crowd)) parted (sym stands.window) stands.kept (omega (arith, few, fewer, between.numbers, limits.most_delay)) (omega (arith, fewer, room)) in
-      let shown = subst (λ ys. PartsOut m s.settings (parts m k ys) s.ledger c.release_parts-n.new.ledger c.args.list.now c.release_parts-n.new.list c.release_parts-n.result) own_members out in
+      let parted : Parted m k es c.members.result.now c.parts.result.now = parted_at m k (ap (λ d. members d c.as_slice-2.result.now) own ∙ ap (members label) second) (sym c.members.ensures) (sym c.parts.ensures) one in
+      let few : length c.parts.result.now ≤ length es = omega (arith, ap length parted.told, length-map (parts m k es) (part_of m), few_parts m k es (omega (arith, limits.crowd)) large) in
+      let fewer : length es ≤ length hs = members_le label hs in
+      let shown = c.release_parts-n.ensures.out m s.settings k es (omega (arith, limits.crowd)) parted (sym stands.window) stands.kept (omega (arith, few, fewer, between.numbers, limits.most_delay)) (omega (arith, fewer, room)) in
       record {
         holds = record {
           state = ap (λ ys. record { held = ys; boxes = ledger_boxes c.release_parts-n.new.ledger; accepted = s.accepted; suppressed = s.suppressed; closed = s.closed }) c.close_cluster.ensures.held
