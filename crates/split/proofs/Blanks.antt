@@ -5,7 +5,6 @@ use Rattle.rules.specs.declared.Held.{Held}
 use Rattle.split.specs.declared.Member.{Member}
 use Rattle.split.specs.declared.Part.{Part}
 use Rattle.split.specs.declared.faces.Face.{Face}
-use Rattle.split.specs.declared.near.Neighbour.{Neighbour}
 
 abbrev pub no_entry : Entry
 no_entry = record { position = 0; fed = record { owner = 0; values = []; reading = pos 0 } }
@@ -18,9 +17,6 @@ no_member = record { entry = no_entry; part = None }
 
 abbrev pub no_face : Face
 no_face = record { stand_in = no_entry; part = None }
-
-abbrev pub nobody : Neighbour
-nobody = record { distance = 0; position = 0; owner = 0 }
 
 abbrev pub no_part : Part
 no_part = record { bounds = []; loss = 0 }

@@ -55,7 +55,3 @@ settled_goes_on m es qs left ws us e ms out boxes told b next stands first move 
       apart = settled_apart m es so.ps (owner e) ws e ms out boxes told b so.beside apart stands first move retell;
       goes = ap (fold (settle m es) so.ps) (sym next) ∙ so.goes;
     }
-
-pub settled_ends : (m : Meaning) (es : List Entry) (qs : List (List ℕ)) (left ws : List ℕ) (ms : List Member) (boxes : List Part) → ws ≡ [] → Settled m es qs left ws ms boxes → Beside m es (fold (settle m es) qs left) ms boxes
-settled_ends m es qs left ws ms boxes none so =
-    subst (λ ps. Beside m es ps ms boxes) (ap (fold (settle m es) so.ps) (sym none) ∙ so.goes) so.beside
