@@ -6,7 +6,7 @@ use Rattle.keeper.proofs.Filters.{kept_by_none}
 use Rattle.pool.specs.declared.Cluster.{Cluster}
 use Rattle.pool.specs.Tables.{table}
 use Rattle.pool.proofs.Rows.{row_at}
-use Rattle.choice.specs.Places.{Finds}
+use Rattle.pool.specs.Places.{Finds}
 use Rattle.rules.specs.declared.Held.{Held}
 use Rattle.rules.specs.Choosing.{In}
 use Rattle.rules.specs.Clusters.{records, members, size}
