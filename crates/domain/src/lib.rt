@@ -10,7 +10,7 @@ mod interval;
 mod pair;
 mod range;
 
-pub use boxes::{box_loss, covers, join_boxes, point_box, widen};
+pub use boxes::{box_loss, box_loss_by, covers, join_boxes, point_box, widen};
 pub use interval::{Interval, IntervalFault};
 pub use pair::Pair;
 pub use range::Range;
