@@ -1,7 +1,7 @@
 -- The reading and the grammar agree. Assumes nothing.
 use Rattle.std.proofs.Common.{◌≡◌, ℕ, zero, suc, ◌<◌, true, false, ◌&&◌, eqb, List, [], ◌∷◌, ◌++◌, length, get_or, drop, sym, refl, ap, ◌∙◌, subst, inl, inr, ⊎_elim, append_assoc, append-nil, arith, length-drop, Ok, Err}
 use Rattle.std.proofs.lemmas.List.{drop_at, take_at}
-use Rattle.std.proofs.lemmas.Bool.{cases_Bool, cond-true, cond-false, both_ways, and_parts, or_cases, eqb-true, eq-eqb}
+use Rattle.std.proofs.lemmas.Bool.{cond_both, cond-true, cond-false, both_ways, and_parts, or_cases, eqb-true, eq-eqb}
 use Rattle.std.proofs.lemmas.Bool.Decides.{nat_tests}
 use Rattle.rfc4180.specs.declared.fields.RunFault.TheVariants.{Offends}
 use Rattle.rfc4180.specs.Grammar.{plain, inside, FieldText, plainly, quoted, Plain, Inside, empty, one, doubled, Lawful, AllLawful, written, with_commas, LineEnd, Derives}
@@ -136,14 +136,12 @@ tells_behind : (f : FieldText) (ys : List ℕ) → Lawful f → stops ys ≡ tru
 tells_behind f [] l s ih = record { behind = []; split = refl; lawful = (tt, l); ends = inr (refl, refl) }
 tells_behind f (b ∷ bs) l s ih =
     let next = before f (read_line bs) in
-    let end = cut [] f (drop 1 bs) in
-    ⊎_elim
-    (λ h. subst (LineTells (written f ++ b ∷ bs)) (sym (cond-true (eqb b 44) next end h)) (subst (λ x. LineTells (written f ++ x ∷ bs) next) (sym (eqb-true b 44 h)) (tells_before f bs (read_line bs) l (ih bs (omega arith)))))
+    cond_both (eqb b 44) next (cut [] f (drop 1 bs)) (LineTells (written f ++ b ∷ bs))
+    (λ h. subst (λ x. LineTells (written f ++ x ∷ bs) next) (sym (eqb-true b 44 h)) (tells_before f bs (read_line bs) l (ih bs (omega arith))))
     (λ h.
     let two = ⊎_elim (λ c. absurd (both_ways (eqb b 44) h c)) (λ c. and_parts (eqb b 13) (begins_with_lf bs) c) (or_cases (eqb b 44) (eqb b 13 && begins_with_lf bs) s) in
     let same : b ∷ bs ≡ 13 ∷ 10 ∷ drop 1 bs = ap (λ x. x ∷ bs) (eqb-true b 13 two.0) ∙ ap (λ x. 13 ∷ x) (after_lf bs two.1) in
-    subst (LineTells (written f ++ b ∷ bs)) (sym (cond-false (eqb b 44) next end h)) (record { behind = b ∷ bs; split = refl; lawful = (tt, l); ends = inl same }))
-    (cases_Bool (eqb b 44))
+    record { behind = b ∷ bs; split = refl; lawful = (tt, l); ends = inl same })
 
 tells_after : (text : List ℕ) (r : FieldRead) → read_field text ≡ r → Tells text r → ((bs : List ℕ) → length bs < length text → LineTells bs (read_line bs)) → LineTells text (after_field read_line text r)
 tells_after text (whole f) e t ih =

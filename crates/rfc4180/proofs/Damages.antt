@@ -1,7 +1,7 @@
 -- Why a damaged line is none. Assumes nothing.
 use Rattle.std.proofs.Common.{◌≡◌, ℕ, suc, ◌+◌, ◌<◌, Bool, true, false, cond, ◌&&◌, eqb, ◌⊎◌, List, [], ◌∷◌, ◌++◌, length, get_or, take, drop, sym, refl, ap, ◌∙◌, subst, inl, inr, ⊎_elim, append_assoc, append-nil, add-suc, suc-add, zero-add, arith, length-append, drop-cons, take-suc, Ok, Err}
 use Rattle.std.proofs.lemmas.List.{drop_at, length-take-le, get_or-append-add, drop-drop}
-use Rattle.std.proofs.lemmas.Bool.{cases_Bool, cond-true, cond-false, both_ways, and_parts, or_cases, or_parts, and_cases, eqb-true, eq-eqb, ne_eqb}
+use Rattle.std.proofs.lemmas.Bool.{cases_Bool, cond_both, cond-true, cond-false, both_ways, and_parts, or_cases, or_parts, and_cases, eqb-true, eq-eqb, ne_eqb}
 use Rattle.rfc4180.specs.declared.fields.RunFault.TheVariants.{Offends, Runs}
 use Rattle.rfc4180.specs.Grammar.{plain, inside, FieldText, plainly, quoted, Plain, Inside, Lawful, AllLawful, written, with_commas}
 use Rattle.rfc4180.specs.Reading.{Extent, begins_with_lf, stops, further, plain_extent, quoted_extent, mark_extent, Wrong, not_allowed, unclosed, whole, faulty, as_plain, as_quoted, read_field, LineRead, cut, damaged, after_field, read_line, behind_line_end}
@@ -268,10 +268,8 @@ resumes_cons b bs _ h (at_end none) = at_end (no_line_end_cons b bs h none)
 pub resumes : (text : List ℕ) → Resumes text (behind_line_end text)
 resumes [] = at_end none_in_nothing
 resumes (b ∷ bs) =
-    ⊎_elim
+    cond_both (eqb b 13 && begins_with_lf bs) (drop 1 bs) (behind_line_end bs) (Resumes (b ∷ bs))
     (λ h.
     let p = and_parts (eqb b 13) (begins_with_lf bs) h in
-    subst (Resumes (b ∷ bs)) (sym (cond-true (eqb b 13 && begins_with_lf bs) (drop 1 bs) (behind_line_end bs) h))
-    (behind_first [] (ap (λ x. x ∷ bs) (eqb-true b 13 p.0) ∙ ap (λ x. 13 ∷ x) (after_lf bs p.1)) none_in_cr))
-    (λ h. subst (Resumes (b ∷ bs)) (sym (cond-false (eqb b 13 && begins_with_lf bs) (drop 1 bs) (behind_line_end bs) h)) (resumes_cons b bs (behind_line_end bs) h (resumes bs)))
-    (cases_Bool (eqb b 13 && begins_with_lf bs))
+    behind_first [] (ap (λ x. x ∷ bs) (eqb-true b 13 p.0) ∙ ap (λ x. 13 ∷ x) (after_lf bs p.1)) none_in_cr)
+    (λ h. resumes_cons b bs (behind_line_end bs) h (resumes bs))

@@ -1,7 +1,7 @@
 -- What reading a field tells of the text at whose front it stands, and back. Assumes nothing.
 use Rattle.std.proofs.Common.{◌≡◌, ℕ, suc, ◌≤◌, true, eqb, List, [], ◌∷◌, ◌++◌, length, get_or, take, drop, sym, refl, ap, ◌∙◌, subst, ⊎_elim, append_assoc, one-add, arith, length-append, take-append-drop, drop-cons, Ok, Err}
 use Rattle.std.proofs.lemmas.List.{length-take-le}
-use Rattle.std.proofs.lemmas.Bool.{cases_Bool, cond-true, cond-false, eqb-true, eqb-false}
+use Rattle.std.proofs.lemmas.Bool.{cond_both, eqb-true, eqb-false}
 use Rattle.rfc4180.specs.declared.fields.RunFault.TheVariants.{Offends, Runs}
 use Rattle.rfc4180.specs.Grammar.{FieldText, quoted, Inside, Lawful, written}
 use Rattle.rfc4180.specs.Reading.{Extent, stops, plain_extent, quoted_extent, Wrong, not_allowed, unclosed, FieldRead, whole, faulty, as_plain, as_quoted, read_field}
@@ -57,8 +57,6 @@ pub field_tells : (text : List ℕ) → Tells text (read_field text)
 field_tells [] = record { split = refl; lawful = tt; stop = refl }
 field_tells (b ∷ bs) =
     let as_q = as_quoted bs (quoted_extent bs) in
-    let as_p = as_plain (b ∷ bs) (plain_extent (b ∷ bs)) in
-    ⊎_elim
-    (λ h. subst (Tells (b ∷ bs)) (sym (cond-true (eqb b 34) as_q as_p h)) (subst (λ x. Tells (x ∷ bs) as_q) (sym (eqb-true b 34 h)) (as_quoted_tells bs (quoted_extent bs) (quoted_tells bs))))
-    (λ h. subst (Tells (b ∷ bs)) (sym (cond-false (eqb b 34) as_q as_p h)) (as_plain_tells (b ∷ bs) (plain_extent (b ∷ bs)) (eqb-false b 34 h) (plain_tells (b ∷ bs))))
-    (cases_Bool (eqb b 34))
+    cond_both (eqb b 34) as_q (as_plain (b ∷ bs) (plain_extent (b ∷ bs))) (Tells (b ∷ bs))
+    (λ h. subst (λ x. Tells (x ∷ bs) as_q) (sym (eqb-true b 34 h)) (as_quoted_tells bs (quoted_extent bs) (quoted_tells bs)))
+    (λ h. as_plain_tells (b ∷ bs) (plain_extent (b ∷ bs)) (eqb-false b 34 h) (plain_tells (b ∷ bs)))

@@ -1,6 +1,6 @@
 -- What the extent of a field tells of the bytes that it goes over. Assumes nothing.
 use Rattle.std.proofs.Common.{◌≡◌, ℕ, suc, ◌+◌, ◌<◌, ◌≤◌, true, false, cond, eqb, ◌⊎◌, List, [], ◌∷◌, length, get_or, take, drop, sym, refl, subst, inl, inr, ⊎_elim, one-add, arith, Ok, Err}
-use Rattle.std.proofs.lemmas.Bool.{cases_Bool, cond-true, cond-false, eqb-true, eqb-false}
+use Rattle.std.proofs.lemmas.Bool.{cond_both, eqb-true, eqb-false}
 use Rattle.rfc4180.specs.declared.fields.RunFault.TheVariants.{Offends, Runs}
 use Rattle.rfc4180.specs.Grammar.{plain, inside, Plain, Inside, empty, one, doubled}
 use Rattle.rfc4180.specs.Reading.{Extent, stops, further, plain_extent, quoted_extent, mark_extent}
@@ -36,17 +36,12 @@ plain_one b bs (Err (Runs n)) h t = t
 pub plain_tells : (xs : List ℕ) → PlainTells xs (plain_extent xs)
 plain_tells [] = record { bytes = tt; within = omega arith; stop = refl }
 plain_tells (b ∷ bs) =
-    ⊎_elim
-    (λ h. subst (PlainTells (b ∷ bs)) (sym (cond-true (plain b) (further 1 (plain_extent bs)) (cond (stops (b ∷ bs)) (Ok 0) (Err (Offends 0))) h)) (plain_one b bs (plain_extent bs) h (plain_tells bs)))
-    (λ h. subst (PlainTells (b ∷ bs)) (sym (cond-false (plain b) (further 1 (plain_extent bs)) (cond (stops (b ∷ bs)) (Ok 0) (Err (Offends 0))) h)) (ending h))
-    (cases_Bool (plain b))
-  where
-    ending : plain b ≡ false → PlainTells (b ∷ bs) (cond (stops (b ∷ bs)) (Ok 0) (Err (Offends 0)))
-    ending h =
-        ⊎_elim
-        (λ s. subst (PlainTells (b ∷ bs)) (sym (cond-true (stops (b ∷ bs)) (Ok 0) (Err (Offends 0)) s)) (record { bytes = tt; within = omega arith; stop = s }))
-        (λ s. subst (PlainTells (b ∷ bs)) (sym (cond-false (stops (b ∷ bs)) (Ok 0) (Err (Offends 0)) s)) (record { bytes = tt; within = omega arith; other = h; stuck = s }))
-        (cases_Bool (stops (b ∷ bs)))
+    cond_both (plain b) (further 1 (plain_extent bs)) (cond (stops (b ∷ bs)) (Ok 0) (Err (Offends 0))) (PlainTells (b ∷ bs))
+    (λ h. plain_one b bs (plain_extent bs) h (plain_tells bs))
+    (λ h.
+    cond_both (stops (b ∷ bs)) (Ok 0) (Err (Offends 0)) (PlainTells (b ∷ bs))
+    (λ s. record { bytes = tt; within = omega arith; stop = s })
+    (λ s. record { bytes = tt; within = omega arith; other = h; stuck = s }))
 
 -- behind an opening mark: the bytes before n are the inside, the mark at n closes it
 pub record QuotedEnds (xs : List ℕ) (n : ℕ) : Type 0 where
@@ -98,33 +93,27 @@ same_first b bs e h t = subst (λ x. QuotedTells (x ∷ bs) e) (sym (eqb-true b 
 
 within_marks : (b : ℕ) (bs : List ℕ) → (b ≡ 34 → ⊥) → QuotedTells bs (quoted_extent bs) → QuotedTells (b ∷ bs) (cond (inside b) (further 1 (quoted_extent bs)) (Err (Offends 0)))
 within_marks b bs n t =
-    ⊎_elim
-    (λ h. subst (QuotedTells (b ∷ bs)) (sym (cond-true (inside b) (further 1 (quoted_extent bs)) (Err (Offends 0)) h)) (quoted_one b bs (quoted_extent bs) h t))
-    (λ h. subst (QuotedTells (b ∷ bs)) (sym (cond-false (inside b) (further 1 (quoted_extent bs)) (Err (Offends 0)) h)) (inl (record { bytes = empty; within = omega arith; other = h; no_mark = n })))
-    (cases_Bool (inside b))
+    cond_both (inside b) (further 1 (quoted_extent bs)) (Err (Offends 0)) (QuotedTells (b ∷ bs))
+    (λ h. quoted_one b bs (quoted_extent bs) h t)
+    (λ h. inl (record { bytes = empty; within = omega arith; other = h; no_mark = n }))
 
 closed : (b : ℕ) (bs : List ℕ) → (b ≡ 34 → ⊥) → QuotedTells (34 ∷ b ∷ bs) (cond (stops (b ∷ bs)) (Ok 0) (Err (Offends 1)))
 closed b bs n =
-    ⊎_elim
-    (λ s. subst (QuotedTells (34 ∷ b ∷ bs)) (sym (cond-true (stops (b ∷ bs)) (Ok 0) (Err (Offends 1)) s)) (record { bytes = empty; within = omega arith; mark = refl; stop = s }))
-    (λ s. subst (QuotedTells (34 ∷ b ∷ bs)) (sym (cond-false (stops (b ∷ bs)) (Ok 0) (Err (Offends 1)) s)) (inr (0, refl, record { bytes = empty; within = omega arith; mark = refl; no_mark = n; stuck = s })))
-    (cases_Bool (stops (b ∷ bs)))
+    cond_both (stops (b ∷ bs)) (Ok 0) (Err (Offends 1)) (QuotedTells (34 ∷ b ∷ bs))
+    (λ s. record { bytes = empty; within = omega arith; mark = refl; stop = s })
+    (λ s. inr (0, refl, record { bytes = empty; within = omega arith; mark = refl; no_mark = n; stuck = s }))
 
 mutual
   pub quoted_tells : (xs : List ℕ) → QuotedTells xs (quoted_extent xs)
   quoted_tells [] = (refl, empty)
   quoted_tells (b ∷ bs) =
-      let other = cond (inside b) (further 1 (quoted_extent bs)) (Err (Offends 0)) in
-      ⊎_elim
-      (λ h. subst (QuotedTells (b ∷ bs)) (sym (cond-true (eqb b 34) (mark_extent bs) other h)) (same_first b bs (mark_extent bs) h (mark_tells bs)))
-      (λ h. subst (QuotedTells (b ∷ bs)) (sym (cond-false (eqb b 34) (mark_extent bs) other h)) (within_marks b bs (eqb-false b 34 h) (quoted_tells bs)))
-      (cases_Bool (eqb b 34))
+      cond_both (eqb b 34) (mark_extent bs) (cond (inside b) (further 1 (quoted_extent bs)) (Err (Offends 0))) (QuotedTells (b ∷ bs))
+      (λ h. same_first b bs (mark_extent bs) h (mark_tells bs))
+      (λ h. within_marks b bs (eqb-false b 34 h) (quoted_tells bs))
 
   mark_tells : (bs : List ℕ) → QuotedTells (34 ∷ bs) (mark_extent bs)
   mark_tells [] = record { bytes = empty; within = omega arith; mark = refl; stop = refl }
   mark_tells (b ∷ bs) =
-      let other = cond (stops (b ∷ bs)) (Ok 0) (Err (Offends 1)) in
-      ⊎_elim
-      (λ h. subst (QuotedTells (34 ∷ b ∷ bs)) (sym (cond-true (eqb b 34) (further 2 (quoted_extent bs)) other h)) (subst (λ x. QuotedTells (34 ∷ x ∷ bs) (further 2 (quoted_extent bs))) (sym (eqb-true b 34 h)) (quoted_two bs (quoted_extent bs) (quoted_tells bs))))
-      (λ h. subst (QuotedTells (34 ∷ b ∷ bs)) (sym (cond-false (eqb b 34) (further 2 (quoted_extent bs)) other h)) (closed b bs (eqb-false b 34 h)))
-      (cases_Bool (eqb b 34))
+      cond_both (eqb b 34) (further 2 (quoted_extent bs)) (cond (stops (b ∷ bs)) (Ok 0) (Err (Offends 1))) (QuotedTells (34 ∷ b ∷ bs))
+      (λ h. subst (λ x. QuotedTells (34 ∷ x ∷ bs) (further 2 (quoted_extent bs))) (sym (eqb-true b 34 h)) (quoted_two bs (quoted_extent bs) (quoted_tells bs)))
+      (λ h. closed b bs (eqb-false b 34 h))
