@@ -1,4 +1,3 @@
-pub mod Windows
 pub mod Offers
 pub mod Firsts
 pub mod Entries

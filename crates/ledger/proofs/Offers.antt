@@ -1,9 +1,9 @@
 -- Kept boxes with their losses, and one more that is offered. Assumes nothing.
-use Rattle.std.proofs.Common.{◌≡◌, ℕ, ◌-◌, ◌≤◌, List, [], ◌∷◌, ◌++◌, map, length, replicate, sym, refl, ap, ◌∙◌, arith}
+use Rattle.std.proofs.Common.{◌≡◌, ℕ, ◌≤◌, List, [], ◌∷◌, ◌++◌, map, length, sym, refl, ap, ◌∙◌, arith}
 use Rattle.std.specs.List.{AllByRecursion}
 use Rattle.std.proofs.lemmas.List.FromFn.{length-range_with_len}
 use Rattle.std.proofs.ByRecursion.{All-push, sum_by_le}
-use Rattle.std.proofs.lemmas.List.{map_push, take_all, length-replicate}
+use Rattle.std.proofs.lemmas.List.{map_push, take_all}
 use Rattle.std.proofs.lemmas.List.Sums.{sum-map}
 use Rattle.domain.specs.declared.range.Range.{Range}
 use Rattle.domain.specs.Meaning.{Meaning, full_loss, loss_of}
@@ -11,21 +11,13 @@ use Rattle.domain.specs.Boxes.{range_at, attributes, known_count, box_loss}
 use Rattle.domain.proofs.Places.{loss_le}
 use Rattle.keeper.specs.Keeping.{Keeps, items_in}
 use Rattle.keeper.specs.Leasts.{leasts}
-use Rattle.keeper.proofs.Keepers.{keeps_from, items_are}
+use Rattle.keeper.proofs.Keepers.{items_are}
 use Rattle.keeper.proofs.Leasts.{leasts_map}
 use Rattle.rules.specs.States.{Kept, kept_rank, offered}
 use Rattle.rules.proofs.KeeperRanks.{leasts_of_keeper}
 use Rattle.ledger.specs.declared.kept.KeptBox.{KeptBox}
 use Rattle.ledger.specs.KeptBoxes.{kept_of, rank_of, no_kept}
 use Rattle.ledger.specs.Ledgers.{Priced}
-
--- free places keep the least of nothing
-pub keeps_nothing : (n : ℕ) → Keeps rank_of no_kept (replicate n no_kept) []
-keeps_nothing n =
-    let k = length (replicate n no_kept) in
-    let long : n ≡ k - 0 = omega (arith, length-replicate n no_kept) in
-    keeps_from rank_of no_kept (replicate n no_kept) [] tt
-    (ap (λ j. replicate j no_kept) long ∙ ap (λ l. l ++ replicate (k - 0) no_kept) (sym (take_all k [] (omega arith))))
 
 pub nothing_in : (places : List KeptBox) → Keeps rank_of no_kept places [] → items_in rank_of no_kept places ≡ []
 nothing_in places k = items_are rank_of no_kept places [] k ∙ take_all (length places) [] (omega arith)

@@ -1,5 +1,5 @@
 -- What a ledger remembers, in the words of the rules. Assumes nothing.
-use Rattle.std.specs.Prelude.{◌≡◌, ℕ, List, [], map, reverse, length, vec_items}
+use Rattle.std.specs.Prelude.{◌≡◌, ℕ, List, [], map, length, vec_items}
 use Rattle.std.specs.List.{AllByRecursion}
 use Rattle.domain.specs.Meaning.{Meaning}
 use Rattle.domain.specs.Boxes.{box_loss}
@@ -13,7 +13,7 @@ use Rattle.ledger.specs.KeptBoxes.{kept_of, rank_of, no_kept}
 
 -- how many losses enter the mean, and how many boxes may be kept: the settings mu and rho
 abbrev pub window_of : Ledger → ℕ
-window_of l = l.window
+window_of l = l.losses.window
 
 abbrev pub places_of : Ledger → ℕ
 places_of l = length (vec_items l.kept)
@@ -23,7 +23,7 @@ abbrev pub kept_boxes : Ledger → List KeptBox
 kept_boxes l = items_in rank_of no_kept (vec_items l.kept)
 
 abbrev pub ledger_boxes : Ledger → Boxes
-ledger_boxes l = record { kept = map kept_of (kept_boxes l); losses = reverse (vec_items l.losses); made = l.made }
+ledger_boxes l = record { kept = map kept_of (kept_boxes l); losses = l.losses.latest.items; made = l.made }
 
 -- the box's loss is that of its ranges
 abbrev pub Priced : Meaning → KeptBox → Type 0

@@ -3,6 +3,7 @@
 
 mod kept;
 mod ledger;
+mod losses;
 mod mean;
 
 pub use kept::KeptBox;

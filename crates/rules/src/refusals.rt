@@ -1,13 +1,15 @@
 // Why a call is turned away. Reasons are tried in the order of the variants.
-ghost use Rattle.std.specs.Prelude.{◌≡◌};
+ghost use Rattle.std.specs.Prelude.{◌≡◌, ◌==◌, codes, if◌then◌else◌};
 ghost use Rattle.rules.specs.Refusals.{open_number, refusal_number, refusal_column};
 
-use std::fmt;
+use thiserror::Error;
 
 // Why no stream is opened.
-#[derive(Debug, Clone, Copy, PartialEq, Eq)]
+#[derive(Debug, Clone, Copy, PartialEq, Eq, Error)]
 pub enum OpenRefusal {
+    #[error("a stream takes records of one to six attributes")]
     Width,
+    #[error("a setting is outside its limits")]
     Limits,
 }
 
@@ -22,22 +24,28 @@ impl OpenRefusal {
     }
 }
 
-impl fmt::Display for OpenRefusal {
-    fn fmt<W: fmt::Write>(&self, f: &mut fmt::Formatter<W>) -> fmt::Result {
-        match self {
-            OpenRefusal::Width => write!(f, "a stream takes records of one to six attributes"),
-            OpenRefusal::Limits => write!(f, "a setting is outside its limits"),
-        }
-    }
+// Why a record is not taken, or a stream is not closed. `Unfit` has the column at fault, from 1.
+#[derive(Debug, Clone, Copy, PartialEq, Eq, Error)]
+pub enum Refusal {
+    #[error("the stream is closed")]
+    Closed,
+    #[error("the stream has taken 4,000,000,000 records, and takes no more")]
+    Full,
+    #[error("the release list is too short for the lines that may be due")]
+    ShortList,
+    #[error("column {0}: {fault}", fault = fault_in(*.0))]
+    Unfit(u32),
 }
 
-// Why a record is not taken, or a stream is not closed. `Unfit` has the column at fault, from 1.
-#[derive(Debug, Clone, Copy, PartialEq, Eq)]
-pub enum Refusal {
-    Closed,
-    Full,
-    ShortList,
-    Unfit(u32),
+// What is wrong in that column: the first has the owner.
+fn fault_in(column: u32) -> &'static str
+    ensures { result.now ≡ (if column == 1 then codes "the owner is 0" else codes "the value is not one of the domain's") }
+{
+    if column == 1 {
+        "the owner is 0"
+    } else {
+        "the value is not one of the domain's"
+    }
 }
 
 impl Refusal {
@@ -59,27 +67,6 @@ impl Refusal {
         match self {
             Refusal::Unfit(column) => column,
             _ => 0,
-        }
-    }
-}
-
-impl fmt::Display for Refusal {
-    fn fmt<W: fmt::Write>(&self, f: &mut fmt::Formatter<W>) -> fmt::Result {
-        match self {
-            Refusal::Closed => write!(f, "the stream is closed"),
-            Refusal::Full => write!(
-                f,
-                "the stream has taken 4,000,000,000 records, and takes no more"
-            ),
-            Refusal::ShortList => write!(
-                f,
-                "the release list is too short for the lines that may be due"
-            ),
-            Refusal::Unfit(1) => write!(f, "column 1: the owner is 0"),
-            Refusal::Unfit(column) => write!(
-                f,
-                "column {column}: the value is not one of the domain's"
-            ),
         }
     }
 }
