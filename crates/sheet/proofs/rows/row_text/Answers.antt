@@ -1,10 +1,10 @@
-use Rattle.std.proofs.Common.{[], ◌∷◌, length, take, ap, ◌∙◌, subst, append_assoc, length-append, arith, w32, SFits, rules}
+use Rattle.std.proofs.Common.{[], ◌∷◌, length, take, ap, ◌∙◌, subst, append_assoc, length-append, arith, rules}
 use Rattle.std.specs.List.{AllByRecursion}
 use Rattle.std.proofs.ByRecursion.{All-more}
 use Rattle.std.proofs.lemmas.List.{take_all}
 use Rattle.sheet.specs.Rows.{attribute_field}
 use Rattle.sheet.specs.Shown.{Small}
-use Rattle.sheet.proofs.Numbers.{row_shown, mag_small}
+use Rattle.sheet.proofs.Numbers.{row_shown}
 use Rattle.sheet.proofs.Steps.{attributes_more}
 use Rattle.sheet.proofs.rows.row_text.Goals as goal
 
@@ -20,6 +20,5 @@ loop-range-preserved c =
 pub returns-clause-shown : goal.returns-clause-shown
 returns-clause-shown c =
     let line = c.args.line.now in
-    let fit : SFits w32 line.reading = search rules in
     let all = take_all c.loop-range.range-index (take c.count.result line.ranges) (omega arith) ∙ ap (λ n. take n line.ranges) c.count.ensures in
-    row_shown c.args.width.count line (subst (AllByRecursion Small) all c.loop-range.invariant.2) (mag_small line.reading fit)
+    row_shown c.args.width.count line (subst (AllByRecursion Small) all c.loop-range.invariant.2) (search rules)
