@@ -14,8 +14,8 @@ loop-range-preserved c =
     let i = c.loop-range.range-index in
     let more = attributes_more (attribute_field c.args.line.now.manner) ranges i (record { low = 0; high = 0 }) (omega arith) in
     let comma = c.push.ensures.ascii (omega arith) in
-    let long = ap length comma ∙ length-append c.push_str.new.self.bytes (44 ∷ []) in
-    (search (rules, more, comma, append_assoc), omega (arith, long), All-more Small ranges i (record { low = 0; high = 0 }) (omega arith) c.loop-range.invariant.2 c.attribute_text.ensures.small)
+    let long = ap length comma ∙ length-append c.push_attribute.new.row.bytes (44 ∷ []) in
+    (search (rules, more, comma, append_assoc), omega (arith, long), All-more Small ranges i (record { low = 0; high = 0 }) (omega arith) c.loop-range.invariant.2 c.push_attribute.ensures.small)
 
 pub returns-clause-shown : goal.returns-clause-shown
 returns-clause-shown c =
