@@ -1,4 +1,4 @@
-// The fields of a row, added to its text: a text for each field would be copied once more.
+// The fields of a row, added to its text.
 ghost use Rattle.std.specs.Prelude.{◌≡◌, ◌+◌, ◌≤◌, ◌++◌};
 ghost use Rattle.arrayvec.specs.ArrayString.{array_string_len};
 ghost use Rattle.rfc4180.specs.Grammar.{written};
@@ -12,6 +12,7 @@ use itoa::Buffer;
 use release::Manner;
 
 // Adds a range: one value as its number, any other as [low,high] between quotation marks.
+// It asks for room in the row, since a text of its own would be copied once more, which is slower.
 fn push_range(row: &mut RowText, range: Range)
     requires { array_string_len row.old + 25 ≤ max_row }
     ensures bytes { row.new.bytes ≡ row.old.bytes ++ written (range_field range) }
