@@ -6,7 +6,7 @@ use Rattle.rfc4180.specs.Told.{line_answer}
 use Rattle.rfc4180.specs.declared.faults.TextFault.{TextFault}
 use Rattle.rfc4180.specs.declared.lines.Line.{Line}
 use Rattle.rfc4180.proofs.Agreement.{LineTells, line_tells, derived_reads}
-use Rattle.std.proofs.lemmas.List.{get_or_at, take_at}
+use Rattle.std.proofs.lemmas.List.{get_or_at, take_at, nil_from_length}
 use Rattle.std.proofs.lemmas.Bool.{cases_lt, cases_eq, cond-true, cond-false, and_from, and_right, le-leb, lt-ltb, le-ltb, eq-eqb, ne_eqb}
 use Rattle.std.proofs.lemmas.Bool.Decides.{nat_tests}
 use Rattle.sheet.specs.declared.faults.HeaderFault.TheVariants.{Text, Fields, AreaTooShort}
@@ -101,10 +101,6 @@ pub record Checked (width : ℕ) (header : List ℕ) (r : LineRead) (line : Line
 same_line : (l m : Line) → ◌≡◌ {A = Result Line TextFault} (Ok l) (Ok m) → l ≡ m
 same_line l m e = cc
 
-none_left : (xs : List ℕ) → length xs ≤ 0 → xs ≡ []
-none_left [] h = refl
-none_left (x ∷ xs) h = absurd (omega arith)
-
 -- the answer to a whole line, when the tests before it have passed
 
 at_second_line : (width room size : ℕ) (front : List FieldText) (last : FieldText) (rest : List ℕ) → 0 < length rest → header_answer width room size (cut front last rest) ≡ Err (Text (second_line (size - length rest)))
@@ -137,7 +133,7 @@ checked_cut width header front last rest line d f n =
     ⊎_elim
     (λ h. checked_behind width header front last rest line h (rest_within header front last rest d) n)
     (λ h.
-    let none = none_left rest h in
+    let none = nil_from_length rest (omega arith) in
     subst (λ r. Checked width header (cut front last r) line) (sym none)
     (checked_at_end width header front last line (subst (Derives header front last) none d) f (omega arith)))
     (cases_lt 0 (length rest))
@@ -146,7 +142,7 @@ checked_read : (width : ℕ) (header : List ℕ) (r : LineRead) (line : Line) �
 checked_read width header (cut front last rest) line t e =
     let same = same_line line _ e in
     checked_cut width header front last rest line t (ap (λ l. l.fields) same) (ap (λ l. l.next) same)
-checked_read width header (damaged front w n) line t e = let z : ◌≡◌ {A = ℕ} 0 1 = cc in absurd (omega arith)
+checked_read width header (damaged front w n) line t e = absurd cc
 
 pub checked : (width : ℕ) (header : List ℕ) (line : Line) → Ok line ≡ line_answer 1 0 (length header) (read_line header) → Checked width header (read_line header) line
 checked width header line e = checked_read width header (read_line header) line (line_tells header) e
@@ -162,11 +158,11 @@ pub record Taken (width room : ℕ) (header : List ℕ) (n : ℕ) : Type 0 where
   pub room_for : n ≤ room
 
 taken_read : (width room : ℕ) (header : List ℕ) (r : LineRead) (n : ℕ) → LineTells header r → Ok n ≡ header_answer width room (length header) r → Taken width room header n
-taken_read width room header (damaged front w k) n t e = let z : ◌≡◌ {A = ℕ} 0 1 = cc in absurd (omega arith)
+taken_read width room header (damaged front w k) n t e = absurd cc
 taken_read width room header (cut front last rest) n t e =
     ⊎_elim
-    (λ h. let f = at_second_line width room (length header) front last rest h in let z : ◌≡◌ {A = ℕ} 0 1 = cc in absurd (omega arith))
-    (λ h. at_end (none_left rest h))
+    (λ h. let f = at_second_line width room (length header) front last rest h in absurd cc)
+    (λ h. at_end (nil_from_length rest (omega arith)))
     (cases_lt 0 (length rest))
   where
     at_end : rest ≡ [] → Taken width room header n
@@ -177,13 +173,13 @@ taken_read width room header (cut front last rest) n t e =
         (λ c.
         let a = at_room width room (length header) front last c in
         ⊎_elim
-        (λ s. let b = cond-true (ltb room (length (line_bytes front last))) (Err (AreaTooShort (length (line_bytes front last)))) (Ok (length (line_bytes front last))) (lt-ltb _ _ s) in let z : ◌≡◌ {A = ℕ} 0 1 = cc in absurd (omega arith))
+        (λ s. let b = cond-true (ltb room (length (line_bytes front last))) (Err (AreaTooShort (length (line_bytes front last)))) (Ok (length (line_bytes front last))) (lt-ltb _ _ s) in absurd cc)
         (λ s.
         let b = cond-false (ltb room (length (line_bytes front last))) (Err (AreaTooShort (length (line_bytes front last)))) (Ok (length (line_bytes front last))) (le-ltb _ _ s) in
         let k : n ≡ length (line_bytes front last) = cc in
         record { front = front; last = last; derives = d; columns = c; size = k; room_for = omega arith })
         (cases_lt room (length (line_bytes front last))))
-        (λ c. let a = at_fields width room (length header) front last c in let z : ◌≡◌ {A = ℕ} 0 1 = cc in absurd (omega arith))
+        (λ c. let a = at_fields width room (length header) front last c in absurd cc)
         (cases_eq (length front) width)
 
 pub taken : (width room : ℕ) (header : List ℕ) (n : ℕ) → header_answer width room (length header) (read_line header) ≡ room_answer room n → n ≤ room → Taken width room header n

@@ -74,8 +74,5 @@ signed_reads (pos n) h =
     ∙ ap (λ x. pos (digits_value 10 x)) whole ∙ ap pos (decimal_is_IsNumeral n (omega arith)).1
 signed_reads (negsuc n) h = ap (λ v. neg_ℤ (pos v)) (decimal_is_IsNumeral (suc n) (omega arith)).1
 
-pub mag_small : (z : ℤ) → SFits w32 z → mag z < 2 ^ 63
-mag_small z f = omega (arith, ints)
-
-pub row_shown : (width : ℕ) (line : Line) → AllByRecursion Small (take width line.ranges) → mag line.reading < 2 ^ 63 → Shown width line
-row_shown width line s m = record { ranges = all_shown line.manner (take width line.ranges) s; reading = signed_reads line.reading m }
+pub row_shown : (width : ℕ) (line : Line) → AllByRecursion Small (take width line.ranges) → SFits w32 line.reading → Shown width line
+row_shown width line s f = record { ranges = all_shown line.manner (take width line.ranges) s; reading = signed_reads line.reading (omega (arith, ints)) }

@@ -2,7 +2,7 @@
 use Rattle.std.specs.Prelude.{ℕ, Ok, Err, Result}
 use Rattle.sheet.specs.declared.faults.HeaderFault.{HeaderFault}
 use Rattle.sheet.specs.declared.sheets.HeadedSheet.{HeadedSheet}
-use Rattle.sheet.specs.declared.sheets.calls.HeaderRefused.{HeaderRefused}
+use Rattle.sheet.specs.declared.sheets.HeaderRefused.{HeaderRefused}
 
 -- the bytes written, or the fault
 abbrev pub told_header : Result (HeadedSheet × ℕ) HeaderRefused → Result ℕ HeaderFault

@@ -1,45 +1,43 @@
-// The fields of a row as text.
-ghost use Rattle.std.specs.Prelude.{◌≡◌};
+// The fields of a row, added to its text.
+ghost use Rattle.std.specs.Prelude.{◌≡◌, ◌+◌, ◌≤◌, ◌++◌};
+ghost use Rattle.arrayvec.specs.ArrayString.{array_string_len};
 ghost use Rattle.rfc4180.specs.Grammar.{written};
+ghost use Rattle.sheet.specs.Limits.{max_row};
 ghost use Rattle.sheet.specs.Rows.{range_field, attribute_field};
 ghost use Rattle.sheet.specs.Shown.{Small};
 
-use arrayvec::ArrayString;
+use crate::rows::RowText;
 use domain::Range;
 use itoa::Buffer;
 use release::Manner;
 
-// Two numbers of ten digits, the comma between them, brackets and quotation marks.
-const MAX_FIELD: usize = 25;
-
-// One value as its number, any other range as [low,high] between quotation marks.
-fn range_text(range: Range) -> ArrayString<MAX_FIELD>
-    ensures { result.bytes ≡ written (range_field range) }
+// Adds a range: one value as its number, any other as [low,high] between quotation marks.
+// It asks for room in the row, since a text of its own would be copied once more, which is slower.
+fn push_range(row: &mut RowText, range: Range)
+    requires { array_string_len row.old + 25 ≤ max_row }
+    ensures bytes { row.new.bytes ≡ row.old.bytes ++ written (range_field range) }
+    ensures bound { array_string_len row.new ≤ array_string_len row.old + 25 }
 {
-    let mut text = ArrayString::new();
     if range.low == range.high {
-        text.push_str(Buffer::new().format(range.low));
+        row.push_str(Buffer::new().format(range.low));
     } else {
-        text.push_str("\"[");
-        text.push_str(Buffer::new().format(range.low));
-        text.push(',');
-        text.push_str(Buffer::new().format(range.high));
-        text.push_str("]\"");
+        row.push_str("\"[");
+        row.push_str(Buffer::new().format(range.low));
+        row.push(',');
+        row.push_str(Buffer::new().format(range.high));
+        row.push_str("]\"");
     }
-    text
 }
 
-// A range, or the star of a suppressed record.
-pub(crate) fn attribute_text(manner: Manner, range: Range) -> ArrayString<MAX_FIELD>
-    ensures bytes { result.bytes ≡ written (attribute_field manner range) }
+// Adds an attribute's field: a range, or the star of a suppressed record.
+pub(crate) fn push_attribute(row: &mut RowText, manner: Manner, range: Range)
+    requires { array_string_len row.old + 25 ≤ max_row }
+    ensures bytes { row.new.bytes ≡ row.old.bytes ++ written (attribute_field manner range) }
+    ensures bound { array_string_len row.new ≤ array_string_len row.old + 25 }
     ensures small { Small range }
 {
     match manner {
-        Manner::Released | Manner::Reused => range_text(range),
-        Manner::Suppressed => {
-            let mut text = ArrayString::new();
-            text.push('*');
-            text
-        }
+        Manner::Released | Manner::Reused => push_range(row, range),
+        Manner::Suppressed => row.push('*'),
     }
 }

@@ -7,7 +7,7 @@ ghost use Rattle.sheet.specs.Sheets.{RowBack, GoesOn};
 ghost use Rattle.sheet.specs.Shown.{Shown};
 
 use crate::faults::RowFault;
-use crate::fields::attribute_text;
+use crate::fields::push_attribute;
 use arrayvec::ArrayString;
 use domain::Width;
 use itoa::Buffer;
@@ -19,14 +19,17 @@ pub const MAX_ROWS: u32 = 4_000_000_000;
 // The most bytes that a row takes: an area of this size has room for any.
 pub const MAX_ROW: usize = 169;
 
-// The row of a line, made before it is known whether an area has room for it.
-fn row_text(width: Width, line: &Line) -> ArrayString<MAX_ROW>
+// A row's text, made before it is known whether an area has room for it.
+pub(crate) type RowText = ArrayString<MAX_ROW>;
+
+// The row of a line.
+fn row_text(width: Width, line: &Line) -> RowText
     ensures bytes { result.bytes ≡ row_bytes width.count line.now }
     ensures shown { Shown width.count line.now }
 {
-    let mut row = ArrayString::new();
+    let mut row = RowText::new();
     for range in &line.ranges[..width.count()] {
-        row.push_str(attribute_text(line.manner, *range).as_str());
+        push_attribute(&mut row, line.manner, *range);
         row.push(',');
     }
     row.push_str(Buffer::new().format(line.reading));

@@ -1,10 +1,10 @@
-use Rattle.std.proofs.Common.{[], ◌∷◌, length, take, ap, ◌∙◌, subst, append_assoc, length-append, arith, w32, SFits, rules}
+use Rattle.std.proofs.Common.{[], ◌∷◌, length, take, ap, ◌∙◌, subst, append_assoc, length-append, arith, rules}
 use Rattle.std.specs.List.{AllByRecursion}
 use Rattle.std.proofs.ByRecursion.{All-more}
 use Rattle.std.proofs.lemmas.List.{take_all}
 use Rattle.sheet.specs.Rows.{attribute_field}
 use Rattle.sheet.specs.Shown.{Small}
-use Rattle.sheet.proofs.Numbers.{row_shown, mag_small}
+use Rattle.sheet.proofs.Numbers.{row_shown}
 use Rattle.sheet.proofs.Steps.{attributes_more}
 use Rattle.sheet.proofs.rows.row_text.Goals as goal
 
@@ -14,12 +14,11 @@ loop-range-preserved c =
     let i = c.loop-range.range-index in
     let more = attributes_more (attribute_field c.args.line.now.manner) ranges i (record { low = 0; high = 0 }) (omega arith) in
     let comma = c.push.ensures.ascii (omega arith) in
-    let long = ap length comma ∙ length-append c.push_str.new.self.bytes (44 ∷ []) in
-    (search (rules, more, comma, append_assoc), omega (arith, long), All-more Small ranges i (record { low = 0; high = 0 }) (omega arith) c.loop-range.invariant.2 c.attribute_text.ensures.small)
+    let long = ap length comma ∙ length-append c.push_attribute.new.row.bytes (44 ∷ []) in
+    (search (rules, more, comma, append_assoc), omega (arith, long), All-more Small ranges i (record { low = 0; high = 0 }) (omega arith) c.loop-range.invariant.2 c.push_attribute.ensures.small)
 
 pub returns-clause-shown : goal.returns-clause-shown
 returns-clause-shown c =
     let line = c.args.line.now in
-    let fit : SFits w32 line.reading = search rules in
     let all = take_all c.loop-range.range-index (take c.count.result line.ranges) (omega arith) ∙ ap (λ n. take n line.ranges) c.count.ensures in
-    row_shown c.args.width.count line (subst (AllByRecursion Small) all c.loop-range.invariant.2) (mag_small line.reading fit)
+    row_shown c.args.width.count line (subst (AllByRecursion Small) all c.loop-range.invariant.2) (search rules)
