@@ -1,5 +1,5 @@
 // What an auditor has seen: the records that were fed, how each was written, and the boxes that were released.
-ghost use Rattle.std.specs.Prelude.{◌≡◌, ◌↔◌, [], ◌∷◌, ◌++◌, length, IsTrue, OnOk};
+ghost use Rattle.std.specs.Prelude.{◌≡◌, [], length, OnOk};
 ghost use Rattle.std.specs.Option.{option_copied};
 ghost use Rattle.audit.specs.Books as books;
 
