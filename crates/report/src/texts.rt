@@ -18,5 +18,5 @@ pub fn read_all(
     ensures outcomes { IfOk result (λ v. map told v.items ≡ outcomes width.count text.now) }
     ensures whole { Whole width.count text.now }
 {
-    Ok(Reader::begin(text, width).collect(heap)?)
+    Reader::begin(text, width).collect(heap)
 }
