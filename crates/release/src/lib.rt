@@ -4,7 +4,7 @@
 ghost use Rattle.std.specs.Prelude.{◌≡◌};
 ghost use Rattle.release.specs.Manners.{manner_number};
 
-use domain::Range;
+use domain::{PLACES, Range};
 use std::fmt;
 
 // The settings of a stream: the crowd `k`, the delay `delta`, the most open clusters `beta`, the released boxes in the
@@ -18,11 +18,11 @@ pub struct Settings {
     pub rho: u32,
 }
 
-// What is fed: the owner, six values, of which the first are used that the domain knows, and the reading.
+// What is fed: the owner, the values, of which the first are used that the domain knows, and the reading.
 #[derive(Clone, Copy, Debug, PartialEq, Eq)]
 pub struct Record {
     pub owner: u32,
-    pub values: [u32; 6],
+    pub values: [u32; PLACES],
     pub reading: i32,
 }
 
@@ -64,5 +64,5 @@ pub struct Line {
     pub reading: i32,
     pub manner: Manner,
     pub number: u32,
-    pub ranges: [Range; 6],
+    pub ranges: [Range; PLACES],
 }

@@ -46,3 +46,8 @@ pub record Behind (was now_is : Reader) : Type 0 where
 abbrev pub place_behind : List ℕ → Result Line TextFault → ℕ
 place_behind all (Ok line) = line.next
 place_behind all (Err fault) = length all - length (behind_line_end (drop (faulty_field fault) all))
+
+-- what a reader gives next, and what it goes on with
+pub record Gives (was : Reader) (o : Option (Result Report LineFault)) (now_is : Reader) : Type 0 where
+  pub answer : told_next o ≡ next was.width.count was.lines was.place (unread was)
+  pub behind : Behind was now_is

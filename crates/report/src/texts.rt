@@ -18,10 +18,5 @@ pub fn read_all(
     ensures outcomes { IfOk result (λ v. map told v.items ≡ outcomes width.count text.now) }
     ensures whole { Whole width.count text.now }
 {
-    let mut reader = Reader::begin(text, width);
-    let mut all = Vec::new(heap);
-    while let Some(outcome) = reader.next_line() {
-        all.push(outcome)?;
-    }
-    Ok(all)
+    Reader::begin(text, width).collect(heap)
 }

@@ -1,10 +1,11 @@
 // Report lines, one by one.
 ghost use Rattle.std.specs.Prelude.{◌≡◌, ◌+◌, ◌<◌, length};
+ghost use Rattle.std.specs.Iterator.{at_most};
 ghost use Rattle.rfc4180.specs.Reading.{read_line};
 ghost use Rattle.rfc4180.specs.Told.{fields_of, line_answer, Filled};
 ghost use Rattle.report.specs.Lines.{of_reading};
 ghost use Rattle.report.specs.Numbers.{ReadsBack};
-ghost use Rattle.report.specs.Readers.{unread, told_next, next, Begun, Behind, place_behind};
+ghost use Rattle.report.specs.Readers.{unread, told_next, next, Begun, Behind, Gives, place_behind};
 
 use super::Reader;
 use crate::columns::{Report, Row};
@@ -76,6 +77,19 @@ impl<'a> Reader<'a> {
             return None;
         }
         Some(self.take())
+    }
+}
+
+// The outcomes of the lines that are left, in their order.
+impl<'a> Iterator for Reader<'a> {
+    type Item = Result<Report, LineFault>;
+
+    ghost next_gives = { Gives };
+
+    ghost remaining = { λ r. at_most (length (unread r)) };
+
+    fn next(&mut self) -> Option<Result<Report, LineFault>> {
+        self.next_line()
     }
 }
 
