@@ -1,10 +1,10 @@
 -- The offers of a table's clusters come to what the rules say of an arrival.
-use Rattle.std.proofs.Common.{◌≡◌, ℕ, ◌+◌, ◌-◌, ◌*◌, ◌<◌, Bool, ltb, leb, ◌⊎◌, List, [], ◌∷◌, ◌++◌, map, length, IfSome, IfNone, Some, None, sum, filter, Option, sym, refl, ap, ◌∙◌, subst, inl, inr, ⊎_elim, arith}
+use Rattle.std.proofs.Common.{◌≡◌, ℕ, ◌-◌, ◌*◌, ◌<◌, ltb, leb, List, [], ◌∷◌, ◌++◌, map, length, Some, None, sum, filter, sym, refl, ap, ◌∙◌, subst}
 use Rattle.std.specs.List.{range_with_len, AllByRecursion}
 use Rattle.std.specs.Option.{option_map}
 use Rattle.std.proofs.ByRecursion.{All-map, all_kept_by, All-weaker}
-use Rattle.std.proofs.lemmas.Bool.{ltb-true, cond_both}
-use Rattle.std.proofs.lemmas.List.FromFn.{length-map-range_with_len, map-range_with_len_more}
+use Rattle.std.proofs.lemmas.Bool.{cond_both}
+use Rattle.std.proofs.lemmas.List.FromFn.{length-map-range_with_len}
 use Rattle.domain.specs.Meaning.{Meaning}
 use Rattle.domain.specs.Boxes.{box_loss, covers}
 use Rattle.domain.specs.BoxLaws.{Allowed, Admitted}

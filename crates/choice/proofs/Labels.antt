@@ -1,18 +1,13 @@
 -- The labels of the table, and what its rows tell of the held records.
-use Rattle.std.proofs.Common.{◌≡◌, ℕ, zero, suc, ◌<◌, ◌≤◌, Bool, true, false, cond, eqb, ltb, List, [], ◌∷◌, map, length, get_or, filter, sym, refl, ap, ◌∙◌, subst, inl, inr, ⊎_elim, arith}
+use Rattle.std.proofs.Common.{◌≡◌, ℕ, ◌<◌, ltb, List, map, length, get_or, filter, sym, refl, ap, ◌∙◌, subst, arith}
 use Rattle.std.specs.List.{range_with_len, enumerate_from, AllByRecursion}
-use Rattle.std.proofs.lemmas.List.{get_or-map, length-map}
+use Rattle.std.proofs.lemmas.List.{length-map}
 use Rattle.std.proofs.lemmas.List.FromFn.{length-range_with_len, get_or-range_with_len, fill_by_all, length-enumerate_from, get_or-enumerate_from}
 use Rattle.std.proofs.ByRecursion.{All-from_get_or}
-use Rattle.std.proofs.lemmas.Bool.{eq-eqb}
 use Rattle.domain.specs.Meaning.{Meaning}
-use Rattle.rules.specs.declared.Entry.{Entry}
 use Rattle.rules.specs.declared.Held.{Held}
-use Rattle.rules.specs.Choosing.{In}
 use Rattle.rules.specs.Clusters.{size, members, clusters}
 use Rattle.rules.specs.Turn.{larger}
-use Rattle.rules.proofs.Choices.{clusters_law}
-use Rattle.rules.proofs.Totals.{in_kept, in_map}
 use Rattle.pool.specs.declared.Cluster.{Cluster}
 use Rattle.pool.proofs.Rows as rows
 use Rattle.pool.proofs.Rows.{blank, kept_map, labels_table, row_at}

@@ -2,7 +2,6 @@
 use Rattle.std.proofs.Common.{◌≡◌, ℕ, zero, suc, ◌+◌, ◌-◌, ◌^◌, ◌<◌, ◌≤◌, min, Bool, true, false, cond, not, eqb, List, [], ◌∷◌, ◌++◌, map, length, get_or, set, filter, sym, refl, ap, ◌∙◌, subst, inl, inr, ⊎_elim, arith, Option, Some, None, is_some, MatchOption, nat_lt}
 use Rattle.std.specs.List.{remove, position_or_len, AllByRecursion}
 use Rattle.std.proofs.lemmas.List.{map-append, map-id, get_or-map, length-map}
-use Rattle.std.proofs.ByRecursion.{All-map, all_kept_by}
 use Rattle.std.proofs.lemmas.Bool.{eq-eqb, ne_eqb, eqb-true, eqb-false, cases_eq, not-true, not_from_false, ltb-false}
 use Rattle.std.proofs.lemmas.List.Quantifiers.{position-Some}
 use Rattle.std.proofs.lemmas.List.Sums.{fails_before_first}
@@ -14,9 +13,9 @@ use Rattle.rules.specs.declared.Held.{Held}
 use Rattle.rules.specs.Choosing.{In, listed}
 use Rattle.rules.specs.Laws.{Ascending}
 use Rattle.rules.specs.Around.{Fit}
-use Rattle.rules.specs.Clusters.{owner, owners, size, values, records, members, others, clusters, Box, widened, box_of, cost}
+use Rattle.rules.specs.Clusters.{owner, owners, size, values, members, others, clusters, Box, widened, box_of, cost}
 use Rattle.rules.specs.Turn.{merged}
-use Rattle.rules.proofs.Totals.{in_all, kept_in, in_kept, in_map, map_in}
+use Rattle.rules.proofs.Totals.{in_all, kept_in, in_kept}
 use Rattle.rules.proofs.Choices.{clusters_law, merger_law, at_front, member_in, in_member}
 use Rattle.rules.proofs.Turns.{members_all}
 use Rattle.rules.proofs.Around.{boxes_stand}
