@@ -107,7 +107,7 @@ module _ (m : Meaning) (s : State) (e : Entry) (mean : Mean) (cs : List Cluster)
       ap (λ x. taker x (ltb (length (clusters s.held)) g.beta) (smallest s (candidates m s e)) e.position) (ap (smallest s) fitting_by_place ∙ smallest_by_place (filter (λ o. o.fits) xs) (all_kept_by _ _ xs agree_lightest))
       ∙ ap (λ n. taker (option_map (label_of cs) (smallest_of (filter (λ o. o.fits) xs))) (ltb n g.beta) (smallest s (candidates m s e)) e.position) (sym (length_table m s.held cs t))
       ∙ ap (λ x. taker (option_map (label_of cs) (smallest_of (filter (λ o. o.fits) xs))) (ltb (length cs) g.beta) x e.position) (ap (smallest s) candidates_by_place ∙ smallest_by_place xs agree_lightest)
-      ∙ decided_home cs xs (ltb (length cs) g.beta) e.position
+      ∙ decided_home cs (ltb (length cs) g.beta) e.position xs
 
 -- the best offer is that of a cluster, if there is one
 pub best_within : (m : Meaning) (mean : Mean) (vs : List ℕ) (cs : List Cluster) (o : Offer) → best_of (offers m mean vs cs) ≡ Some o → o.place < length cs
