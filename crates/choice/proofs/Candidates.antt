@@ -1,10 +1,10 @@
 -- The offers of a table's clusters come to what the rules say of an arrival.
-use Rattle.std.proofs.Common.{◌≡◌, ℕ, ◌+◌, ◌-◌, ◌*◌, ◌<◌, Bool, ltb, leb, ◌⊎◌, List, [], ◌∷◌, ◌++◌, map, length, IfSome, IfNone, Some, None, sum, filter, Option, sym, refl, ap, ◌∙◌, subst, inl, inr, ⊎_elim, arith}
+use Rattle.std.proofs.Common.{◌≡◌, ℕ, ◌-◌, ◌*◌, ◌<◌, ltb, leb, List, [], ◌∷◌, ◌++◌, map, length, Some, None, sum, filter, sym, refl, ap, ◌∙◌, subst}
 use Rattle.std.specs.List.{range_with_len, AllByRecursion}
 use Rattle.std.specs.Option.{option_map}
 use Rattle.std.proofs.ByRecursion.{All-map, all_kept_by, All-weaker}
-use Rattle.std.proofs.lemmas.Bool.{ltb-true, cond_both}
-use Rattle.std.proofs.lemmas.List.FromFn.{length-map-range_with_len, map-range_with_len_more}
+use Rattle.std.proofs.lemmas.Bool.{cond_both}
+use Rattle.std.proofs.lemmas.List.FromFn.{length-map-range_with_len}
 use Rattle.domain.specs.Meaning.{Meaning}
 use Rattle.domain.specs.Boxes.{box_loss, covers}
 use Rattle.domain.specs.BoxLaws.{Allowed, Admitted}
@@ -30,7 +30,8 @@ use Rattle.choice.specs.Losses.{loss_beside, loss_read}
 use Rattle.choice.specs.Choices.{AllFit}
 use Rattle.choice.proofs.Firsts.{minimal_through, kept_through, least_through}
 use Rattle.choice.proofs.Weighing.{label_of, decided_home, best_among, best_none}
-use Rattle.choice.proofs.Labels.{map_map, row, enumerated, all_counting, labels_by_place, labels_table, length_table, label_open, row_is, members_some}
+use Rattle.pool.proofs.Rows.{map_map, label_open, open_long}
+use Rattle.choice.proofs.Labels.{row, enumerated, all_counting, labels_by_place, labels_open, length_table, row_is}
 use Rattle.choice.proofs.Widened.{covered_loss}
 
 abbrev offer_at : Meaning → Mean → List ℕ → List Cluster → ℕ → Offer
@@ -41,7 +42,7 @@ abbrev all_offers : Meaning → Mean → Entry → List Cluster → List Offer
 all_offers m mean e cs = offers m mean (values e) cs
 
 offers_by_place : (m : Meaning) (mean : Mean) (vs : List ℕ) (cs : List Cluster) → offers m mean vs cs ≡ map (offer_at m mean vs cs) (range_with_len 0 (length cs))
-offers_by_place m mean vs cs = ap (map (λ (p : ℕ × Cluster). offer_of m mean vs p.0 p.1)) (enumerated cs) ∙ sym (map_map (λ (p : ℕ × Cluster). offer_of m mean vs p.0 p.1) (λ i. (i, row cs i)) (range_with_len 0 (length cs)))
+offers_by_place m mean vs cs = ap (map (λ (p : ℕ × Cluster). offer_of m mean vs p.0 p.1)) (enumerated cs) ∙ map_map (λ (p : ℕ × Cluster). offer_of m mean vs p.0 p.1) (λ i. (i, row cs i)) (range_with_len 0 (length cs))
 
 all_places : (P : Offer → Type 0) (m : Meaning) (mean : Mean) (vs : List ℕ) (cs : List Cluster) → ((i : ℕ) → i < length cs → P (offer_at m mean vs cs i)) → AllByRecursion P (offers m mean vs cs)
 all_places P m mean vs cs h = subst (AllByRecursion P) (sym (offers_by_place m mean vs cs)) (All-map _ (offer_at m mean vs cs) (range_with_len 0 (length cs)) (all_counting (λ i. P (offer_at m mean vs cs i)) (length cs) h))
@@ -54,7 +55,7 @@ loss_read_is m vs x p q l =
 -- a cluster of the table, with the record
 cost_with : (m : Meaning) (hs : List Held) (c : ℕ) (e : Entry) → In (clusters hs) c → AllFit m hs → Fit m e → cost m (members c hs ++ e ∷ []) ≡ loss_read m (cluster_of m hs c) (values e)
 cost_with m hs c e i a f =
-    let some = members_some c hs i in
+    let some = open_long hs c i in
     ap (box_loss m) (boxes_stand.wider m (members c hs) e some)
     ∙ sym (loss_read_is m (values e) (cluster_of m hs c) (box_least m (members c hs) some (members_all (Fit m) c hs a)).is_box.allowed f refl)
 
@@ -69,7 +70,7 @@ module _ (m : Meaning) (s : State) (e : Entry) (mean : Mean) (cs : List Cluster)
   agrees_at i l =
       let r = row_is m s.held cs t i l in
       let c = label_at cs i in
-      let loss : cost m (members c s.held ++ e ∷ []) ≡ loss_read m (row cs i) (values e) = cost_with m s.held c e (label_open m s.held cs t i l) a f ∙ ap (λ x. loss_read m x (values e)) (sym r) in
+      let loss : cost m (members c s.held ++ e ∷ []) ≡ loss_read m (row cs i) (values e) = cost_with m s.held c e (label_open m s.held cs i t l) a f ∙ ap (λ x. loss_read m x (values e)) (sym r) in
       record {
         raises = ap (λ k. k - cost m (members c s.held)) loss ∙ ap (λ x. loss_read m (row cs i) (values e) - x.loss) (sym r);
         sizes = ap (λ x. x.size) (sym r);
@@ -80,7 +81,7 @@ module _ (m : Meaning) (s : State) (e : Entry) (mean : Mean) (cs : List Cluster)
   agree = all_places (λ o. Agrees m s e (label_of cs o) o) m mean (values e) cs agrees_at
 
   open_by_place : clusters s.held ≡ map (label_of cs) (all_offers m mean e cs)
-  open_by_place = sym (labels_table m s.held cs t) ∙ labels_by_place cs ∙ map_map (label_of cs) (offer_at m mean (values e) cs) (range_with_len 0 (length cs)) ∙ ap (map (label_of cs)) (sym (offers_by_place m mean (values e) cs))
+  open_by_place = sym (labels_open m s.held cs t) ∙ labels_by_place cs ∙ sym (map_map (label_of cs) (offer_at m mean (values e) cs) (range_with_len 0 (length cs))) ∙ ap (map (label_of cs)) (sym (offers_by_place m mean (values e) cs))
 
   -- the candidates, and the offers that raise the loss least
   candidates_by_place : candidates m s e ≡ map (label_of cs) (lightest (all_offers m mean e cs))
@@ -106,7 +107,7 @@ module _ (m : Meaning) (s : State) (e : Entry) (mean : Mean) (cs : List Cluster)
       ap (λ x. taker x (ltb (length (clusters s.held)) g.beta) (smallest s (candidates m s e)) e.position) (ap (smallest s) fitting_by_place ∙ smallest_by_place (filter (λ o. o.fits) xs) (all_kept_by _ _ xs agree_lightest))
       ∙ ap (λ n. taker (option_map (label_of cs) (smallest_of (filter (λ o. o.fits) xs))) (ltb n g.beta) (smallest s (candidates m s e)) e.position) (sym (length_table m s.held cs t))
       ∙ ap (λ x. taker (option_map (label_of cs) (smallest_of (filter (λ o. o.fits) xs))) (ltb (length cs) g.beta) x e.position) (ap (smallest s) candidates_by_place ∙ smallest_by_place xs agree_lightest)
-      ∙ decided_home cs xs (ltb (length cs) g.beta) e.position
+      ∙ decided_home cs (ltb (length cs) g.beta) e.position xs
 
 -- the best offer is that of a cluster, if there is one
 pub best_within : (m : Meaning) (mean : Mean) (vs : List ℕ) (cs : List Cluster) (o : Offer) → best_of (offers m mean vs cs) ≡ Some o → o.place < length cs

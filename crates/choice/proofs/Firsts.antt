@@ -9,7 +9,7 @@ use Rattle.std.proofs.lemmas.Bool.{eq-eqb, ne_eqb, eqb-true, cases_lt}
 use Rattle.rules.specs.Choosing.{In, head, lowest, minimal, least}
 use Rattle.rules.proofs.Totals.{all_in, kept_in}
 use Rattle.rules.proofs.Numbers.{lowest_le, minimal_some}
-use Rattle.choice.proofs.Labels.{kept_map}
+use Rattle.pool.proofs.Rows.{kept_map}
 
 module _ {X : Type 0} where
   pub kept_same : (p q : X → Bool) (xs : List X) → AllByRecursion (λ x. p x ≡ q x) xs → filter p xs ≡ filter q xs
@@ -112,7 +112,7 @@ module _ {X Y : Type 0} (f : X → Y) where
   lowest_map key own (x ∷ z ∷ zs) a = let ih = lowest_map key own (z ∷ zs) a.1 in omega (arith, ih, a.0)
 
   pub kept_through : (p : Y → Bool) (q : X → Bool) (xs : List X) → AllByRecursion (λ x. p (f x) ≡ q x) xs → filter p (map f xs) ≡ map f (filter q xs)
-  kept_through p q xs a = kept_map p f xs ∙ ap (map f) (kept_same (λ x. p (f x)) q xs a)
+  kept_through p q xs a = kept_map p (λ x. p (f x)) f xs (λ _. refl) ∙ ap (map f) (kept_same (λ x. p (f x)) q xs a)
 
   pub minimal_through : (key : Y → ℕ) (own : X → ℕ) (xs : List X) → AllByRecursion (λ x. key (f x) ≡ own x) xs → minimal key (map f xs) ≡ map f (minimal own xs)
   minimal_through key own xs a =

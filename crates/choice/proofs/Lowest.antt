@@ -1,7 +1,7 @@
 -- What `min_by_key` gives: the later of two only if its key is lower.
 use Rattle.std.proofs.Common.{◌≡◌, ℕ, ◌<◌, ◌≤◌, List, [], ◌∷◌, ◌++◌, Some, None, fold, Option, sym, refl, ap, ◌∙◌, subst, ⊎_elim, arith}
 use Rattle.std.specs.Fn.{CalledAt}
-use Rattle.std.specs.Cmp.{ranks}
+use Rattle.std.specs.Cmp.{ranks, nat_cmp_is}
 use Rattle.std.specs.Iterator.{PicksMinByKey}
 use Rattle.std.specs.List.{reduce}
 use Rattle.std.specs.Ordering.{min_by_ordering, nat_cmp, MatchOrdering}
@@ -69,12 +69,7 @@ module _ {X : Type 0} (m n : ℕ) (b x : X) where
       go Greater h = absurd (omega (arith, h, l))
 
   pub gives_way : n < m → min_by_ordering (nat_cmp m n) b x ≡ x
-  gives_way l = go (nat_cmp m n) (ranks m n)
-    where
-      go : (o : Ordering) → MatchOrdering o (m < n) (m ≡ n) (n < m) → min_by_ordering o b x ≡ x
-      go Less h = absurd (omega (arith, h, l))
-      go Equal h = absurd (omega (arith, h, l))
-      go Greater h = refl
+  gives_way l = ap (λ w. min_by_ordering w b x) (sym (nat_cmp_is m n Greater l))
 
 module _ {X : Type 0} (key : X → ℕ) where
   pub least_more : (xs : List X) (b x : X) → least key xs ≡ Some b → least key (xs ++ x ∷ []) ≡ Some (lower key nat_cmp b x)

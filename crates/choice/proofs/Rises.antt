@@ -1,12 +1,9 @@
 -- How much the other clusters of a table raise the loss of one, as the rules say.
-use Rattle.std.proofs.Common.{◌≡◌, ℕ, zero, suc, ◌+◌, ◌-◌, ◌<◌, ◌≤◌, Bool, true, false, cond, not, eqb, List, [], ◌∷◌, ◌++◌, map, length, get_or, filter, Option, Some, None, MatchOption, ◌⊎◌, sym, refl, ap, ◌∙◌, subst, inl, inr, ⊎_elim, arith}
+use Rattle.std.proofs.Common.{◌≡◌, ℕ, zero, suc, ◌-◌, ◌<◌, ◌≤◌, not, eqb, List, [], ◌++◌, map, length, filter, Option, Some, None, MatchOption, ◌⊎◌, sym, refl, ap, ◌∙◌, subst, inl, inr, ⊎_elim, arith}
 use Rattle.std.specs.List.{range_with_len, enumerate_from}
 use Rattle.std.specs.Option.{option_map}
-use Rattle.std.proofs.lemmas.List.FromFn.{map-range_with_len_more}
-use Rattle.std.proofs.lemmas.List.Elements.{filter-append}
-use Rattle.std.proofs.ByRecursion.{All-map, all_kept_by, All-get_or}
-use Rattle.std.proofs.lemmas.List.{map-id, map-append, append-nil}
-use Rattle.std.proofs.lemmas.Bool.{eq-eqb, ne_eqb, cases_eq, cases_order, both_ways, not-true, not_from_false}
+use Rattle.std.proofs.ByRecursion.{All-map, all_kept_by}
+use Rattle.std.proofs.lemmas.Bool.{eq-eqb, ne_eqb, cases_eq, both_ways, not-true, not_from_false}
 use Rattle.domain.specs.Meaning.{Meaning}
 use Rattle.domain.specs.Boxes.{join_boxes, box_loss}
 use Rattle.rules.specs.declared.Entry.{Entry}
@@ -27,7 +24,8 @@ use Rattle.choice.specs.declared.joining.Rise.{Rise}
 use Rattle.choice.specs.Choices.{AllFit}
 use Rattle.choice.specs.Offers.{rise_of}
 use Rattle.choice.proofs.Firsts.{kept_through, least_through, least_tells, least_none}
-use Rattle.choice.proofs.Labels.{map_map, kept_map, enumerated, length_labels, row, all_counting, labels_by_place, labels_table, label_open, row_is, members_some}
+use Rattle.pool.proofs.Rows.{map_map, kept_map, label_open, labels_apart, open_long}
+use Rattle.choice.proofs.Labels.{enumerated, length_labels, row, all_counting, labels_by_place, labels_open, row_is}
 
 abbrev pub rise_at : Meaning → List Cluster → ℕ → ℕ → Rise
 rise_at m cs at i = rise_of m (row cs at) i (row cs i)
@@ -46,8 +44,8 @@ label_of cs x = label_at cs x.place
 pub rises_by_place : (m : Meaning) (cs : List Cluster) (at : ℕ) → map (λ (p : ℕ × Cluster). rise_of m (row cs at) p.0 p.1) (filter (λ p. not (eqb p.0 at)) (enumerate_from 0 cs)) ≡ rises m cs at (length cs)
 rises_by_place m cs at =
     ap (λ ps. map (λ (p : ℕ × Cluster). rise_of m (row cs at) p.0 p.1) (filter (λ p. not (eqb p.0 at)) ps)) (enumerated cs)
-    ∙ ap (map (λ (p : ℕ × Cluster). rise_of m (row cs at) p.0 p.1)) (kept_map (λ (p : ℕ × Cluster). not (eqb p.0 at)) (λ i. (i, row cs i)) (range_with_len 0 (length cs)))
-    ∙ sym (map_map (λ (p : ℕ × Cluster). rise_of m (row cs at) p.0 p.1) (λ i. (i, row cs i)) (other_places at (length cs)))
+    ∙ ap (map (λ (p : ℕ × Cluster). rise_of m (row cs at) p.0 p.1)) (kept_map (λ (p : ℕ × Cluster). not (eqb p.0 at)) (λ i. not (eqb i at)) (λ i. (i, row cs i)) (range_with_len 0 (length cs)) (λ _. refl))
+    ∙ map_map (λ (p : ℕ × Cluster). rise_of m (row cs at) p.0 p.1) (λ i. (i, row cs i)) (other_places at (length cs))
 
 -- ---- places of the chosen
 
@@ -85,13 +83,6 @@ label_of_place cs (Some x) = refl
 
 -- ---- as the rules say
 
--- labels stand apart
-ascending_at : (xs : List ℕ) (i j : ℕ) → Ascending xs → i < j → j < length xs → get_or xs i 0 < get_or xs j 0
-ascending_at [] i j a l w = absurd (omega arith)
-ascending_at (x ∷ xs) i zero a l w = absurd (omega arith)
-ascending_at (x ∷ xs) zero (suc j) a l w = All-get_or (λ y. x < y) xs j 0 (omega arith) a.0
-ascending_at (x ∷ xs) (suc i) (suc j) a l w = ascending_at xs i j a.1 (omega arith) (omega arith)
-
 together : (es fs : List Entry) → Together es fs (es ++ fs)
 together es fs = record {
   either = all_in _ (es ++ fs) (λ e i. in_append es fs e i);
@@ -101,21 +92,15 @@ together es fs = record {
 
 module _ (m : Meaning) (hs : List Held) (cs : List Cluster) (t : cs ≡ table m hs) (a : AllFit m hs) (at : ℕ) (w : at < length cs) where
   labels_ascend : Ascending (labels cs)
-  labels_ascend = subst Ascending (sym (labels_table m hs cs t)) (clusters_law hs).oldest_first
+  labels_ascend = subst Ascending (sym (labels_open m hs cs t)) (clusters_law hs).oldest_first
 
   same_place : (i : ℕ) → i < length cs → eqb (label_at cs i) (label_at cs at) ≡ eqb i at
   same_place i l =
-      let len = length_labels cs in
+      let long = length_labels cs in
       ⊎_elim {C = eqb (label_at cs i) (label_at cs at) ≡ eqb i at}
-      (λ e. ap (λ k. eqb (label_at cs k) (label_at cs at)) e ∙ eq-eqb (label_at cs at) (label_at cs at) refl ∙ sym (eq-eqb i at e))
-      (λ o. apart i (⊎_elim {C = label_at cs i ≡ label_at cs at → ⊥}
-      (λ l' e. let x = ascending_at (labels cs) i at labels_ascend l' (omega arith) in omega arith)
-      (λ l' e. let x = ascending_at (labels cs) at i labels_ascend l' (omega arith) in omega arith) o)
-      (⊎_elim {C = i ≡ at → ⊥} (λ l' e. omega arith) (λ l' e. omega arith) o))
-      (cases_order i at)
-    where
-      apart : (i : ℕ) → (label_at cs i ≡ label_at cs at → ⊥) → (i ≡ at → ⊥) → eqb (label_at cs i) (label_at cs at) ≡ eqb i at
-      apart i p q = ne_eqb _ _ p ∙ sym (ne_eqb i at q)
+      (λ e. eq-eqb (label_at cs i) (label_at cs at) (ap (label_at cs) e) ∙ sym (eq-eqb i at e))
+      (λ n. ne_eqb _ _ (labels_apart (labels cs) i at labels_ascend (omega arith) (omega arith) n) ∙ sym (ne_eqb i at n))
+      (cases_eq i at)
 
   raise_is : (i : ℕ) → i < length cs → raise m (members (label_at cs at) hs) (members (label_at cs i) hs) ≡ (rise_at m cs at i).raise
   raise_is i l =
@@ -123,16 +108,16 @@ module _ (m : Meaning) (hs : List Held) (cs : List Cluster) (t : cs ≡ table m 
       let d = label_at cs i in
       let es = members c hs in
       let fs = members d hs in
-      ap (λ b. box_loss m b - cost m es) (boxes_stand.joined m es fs (es ++ fs) (members_some c hs (label_open m hs cs t at w)) (members_some d hs (label_open m hs cs t i l)) (members_all (Fit m) c hs a) (members_all (Fit m) d hs a) (together es fs))
+      ap (λ b. box_loss m b - cost m es) (boxes_stand.joined m es fs (es ++ fs) (open_long hs c (label_open m hs cs at t w)) (open_long hs d (label_open m hs cs i t l)) (members_all (Fit m) c hs a) (members_all (Fit m) d hs a) (together es fs))
       ∙ ap (λ x. box_loss m (join_boxes m x.bounds (box_of m fs)) - x.loss) (sym (row_is m hs cs t at w))
       ∙ ap (λ x. box_loss m (join_boxes m (row cs at).bounds x.bounds) - (row cs at).loss) (sym (row_is m hs cs t i l))
 
   others_by_place : clusters (others (label_at cs at) hs) ≡ map (label_of cs) (rises m cs at (length cs))
   others_by_place =
       clusters_others (label_at cs at) hs
-      ∙ ap (filter (λ d. not (eqb d (label_at cs at)))) (sym (labels_table m hs cs t) ∙ labels_by_place cs)
+      ∙ ap (filter (λ d. not (eqb d (label_at cs at)))) (sym (labels_open m hs cs t) ∙ labels_by_place cs)
       ∙ kept_through (label_at cs) (λ d. not (eqb d (label_at cs at))) (λ i. not (eqb i at)) (range_with_len 0 (length cs)) (all_counting (λ i. not (eqb (label_at cs i) (label_at cs at)) ≡ not (eqb i at)) (length cs) (λ i l. ap not (same_place i l)))
-      ∙ map_map (label_of cs) (rise_at m cs at) (other_places at (length cs))
+      ∙ sym (map_map (label_of cs) (rise_at m cs at) (other_places at (length cs)))
 
   pub easiest_is : (best : Option Rise) → best ≡ least (λ x. x.raise) (rises m cs at (length cs)) → easiest m (label_at cs at) hs ≡ option_map (label_at cs) (option_map (λ (x : Rise). x.place) best)
   easiest_is best b =

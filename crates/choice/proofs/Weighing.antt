@@ -1,8 +1,8 @@
 -- One offer more, and what the best one tells.
 use Rattle.std.proofs.Common.{◌≡◌, ℕ, ◌<◌, ◌≤◌, Bool, true, false, cond, not, ltb, ◌⊎◌, ◌||◌, List, [], ◌∷◌, ◌++◌, length, Some, None, IfSome, IfNone, Option, sym, refl, ap, ◌∙◌, subst, inl, inr, ⊎_elim, arith}
-use Rattle.std.specs.Cmp.{ranks}
+use Rattle.std.specs.Cmp.{nat_cmp_is}
 use Rattle.std.specs.Option.{option_map}
-use Rattle.std.specs.Ordering.{min_by_ordering, ordering_then, nat_cmp, bool_cmp, MatchOrdering}
+use Rattle.std.specs.Ordering.{min_by_ordering, ordering_then, nat_cmp, bool_cmp}
 use Rattle.std.specs.declared.cmp.Ordering.{Ordering}
 use Rattle.std.specs.declared.cmp.Ordering.TheVariants.{Less, Equal, Greater}
 use Rattle.std.specs.List.{reduce}
@@ -36,18 +36,22 @@ by_rank x y = ordering_then (ordering_then (nat_cmp x.0 y.0) (bool_cmp x.1 y.1))
 abbrev Best : List Offer → Offer → Type 0
 Best xs b = ((smallest_of (fitting xs) ≡ Some b) × (b.fits ≡ true)) ⊎ ((fitting xs ≡ []) × (smallest_of xs ≡ Some b) × (b.fits ≡ false))
 
+fits_first : (xs : List Offer) (x : Offer) → smallest_of (fitting xs) ≡ Some x → x.fits ≡ true
+fits_first xs x e = (kept_in (λ x. x.fits) xs x (least_tells size_of (fitting xs) x e).0).1
+
+none_fits : (xs : List Offer) (x : Offer) → smallest_of (fitting xs) ≡ None → smallest_of xs ≡ Some x → x.fits ≡ false
+none_fits xs x n e = go x.fits refl
+  where
+    go : (t : Bool) → x.fits ≡ t → x.fits ≡ false
+    go true f = absurd (subst (λ ys. In ys x) (least_none size_of (fitting xs) n) (in_kept (λ x. x.fits) xs x (least_tells size_of xs x e).0 f))
+    go false f = f
+
 best_is : (xs : List Offer) (b : Offer) → weighed xs ≡ Some b → Best xs b
 best_is xs b e = go (smallest_of (fitting xs)) refl e
   where
-    misfit : fitting xs ≡ [] → In xs b → (t : Bool) → b.fits ≡ t → b.fits ≡ false
-    misfit none i true f = absurd (subst (λ ys. In ys b) none (in_kept (λ x. x.fits) xs b i f))
-    misfit none i false f = f
-
     go : (f : Option Offer) → smallest_of (fitting xs) ≡ f → rather f (smallest_of xs) ≡ Some b → Best xs b
-    go (Some x) h e = inl (h ∙ e, (kept_in (λ x. x.fits) xs b (least_tells size_of (fitting xs) b (h ∙ e)).0).1)
-    go None h e =
-        let none = least_none size_of (fitting xs) h in
-        inr (none, e, misfit none (least_tells size_of xs b e).0 b.fits refl)
+    go (Some x) h e = inl (h ∙ e, fits_first xs b (h ∙ e))
+    go None h e = inr (least_none size_of (fitting xs) h, e, none_fits xs b h e)
 
 best_in : (xs : List Offer) (b : Offer) → Best xs b → In xs b
 best_in xs b (inl h) = (kept_in (λ x. x.fits) xs b (least_tells size_of (fitting xs) b h.0).0).0
@@ -102,10 +106,10 @@ module _ (xs : List Offer) (b o : Offer) where
 
 best_more : (xs : List Offer) (b o : Offer) → best_of xs ≡ Some b → best_of (xs ++ o ∷ []) ≡ Some (lower rank by_rank b o)
 best_more xs b o e = ⊎_elim {C = best_of (xs ++ o ∷ []) ≡ Some (lower rank by_rank b o)}
-    (λ s. ap weighed (minimal_same raise_of xs o some (omega (arith, s, at))) ∙ weighed_more (lightest xs) b o (best_is (lightest xs) b e) o.fits refl ∙ ap Some (ordered Equal (same s)))
+    (λ s. ap weighed (minimal_same raise_of xs o some (omega (arith, s, at))) ∙ weighed_more (lightest xs) b o (best_is (lightest xs) b e) o.fits refl ∙ ap Some (ordered Equal (nat_cmp_is b.raise o.raise Equal s)))
     (λ d. ⊎_elim {C = best_of (xs ++ o ∷ []) ≡ Some (lower rank by_rank b o)}
-    (λ l. ap weighed (minimal_over raise_of xs o some (omega (arith, l, at))) ∙ e ∙ ap Some (ordered Less (less l)))
-    (λ l. ap weighed (minimal_under raise_of xs o some (omega (arith, l, at))) ∙ weighed_one o ∙ ap Some (ordered Greater (more l))) d)
+    (λ l. ap weighed (minimal_over raise_of xs o some (omega (arith, l, at))) ∙ e ∙ ap Some (ordered Less (nat_cmp_is b.raise o.raise Less l)))
+    (λ l. ap weighed (minimal_under raise_of xs o some (omega (arith, l, at))) ∙ weighed_one o ∙ ap Some (ordered Greater (nat_cmp_is b.raise o.raise Greater l))) d)
     (cases_order b.raise o.raise)
   where
     at : b.raise ≡ lowest raise_of xs
@@ -117,30 +121,6 @@ best_more xs b o e = ⊎_elim {C = best_of (xs ++ o ∷ []) ≡ Some (lower rank
     ordered : (w : Ordering) → w ≡ nat_cmp b.raise o.raise → min_by_ordering (ordering_then (ordering_then w (bool_cmp (not b.fits) (not o.fits))) (nat_cmp b.size o.size)) b o ≡ lower rank by_rank b o
     ordered w k = ap (λ w. min_by_ordering (ordering_then (ordering_then w (bool_cmp (not b.fits) (not o.fits))) (nat_cmp b.size o.size)) b o) k
 
-    same : b.raise ≡ o.raise → Equal ≡ nat_cmp b.raise o.raise
-    same l = go (nat_cmp b.raise o.raise) (ranks b.raise o.raise)
-      where
-        go : (w : Ordering) → MatchOrdering w (b.raise < o.raise) (b.raise ≡ o.raise) (o.raise < b.raise) → Equal ≡ w
-        go Less h = absurd (omega (arith, h, l))
-        go Equal h = refl
-        go Greater h = absurd (omega (arith, h, l))
-
-    less : b.raise < o.raise → Less ≡ nat_cmp b.raise o.raise
-    less l = go (nat_cmp b.raise o.raise) (ranks b.raise o.raise)
-      where
-        go : (w : Ordering) → MatchOrdering w (b.raise < o.raise) (b.raise ≡ o.raise) (o.raise < b.raise) → Less ≡ w
-        go Less h = refl
-        go Equal h = absurd (omega (arith, h, l))
-        go Greater h = absurd (omega (arith, h, l))
-
-    more : o.raise < b.raise → Greater ≡ nat_cmp b.raise o.raise
-    more l = go (nat_cmp b.raise o.raise) (ranks b.raise o.raise)
-      where
-        go : (w : Ordering) → MatchOrdering w (b.raise < o.raise) (b.raise ≡ o.raise) (o.raise < b.raise) → Greater ≡ w
-        go Less h = absurd (omega (arith, h, l))
-        go Equal h = absurd (omega (arith, h, l))
-        go Greater h = refl
-
 pub best_reduced : (xs : List Offer) → reduce (lower rank by_rank) xs ≡ best_of xs
 best_reduced = reduced best_of (lower rank by_rank) (λ o. ap weighed (ap (λ t. cond t (o ∷ []) []) (eq-eqb o.raise o.raise refl)) ∙ weighed_one o) best_more refl
 
@@ -149,38 +129,24 @@ best_reduced = reduced best_of (lower rank by_rank) (λ o. ap weighed (ap (λ t.
 abbrev pub label_of : List Cluster → Offer → ℕ
 label_of cs o = label_at cs o.place
 
--- as the rules say of the smallest that fits and of the smallest
-pub decided_home : (cs : List Cluster) (xs : List Offer) (room : Bool) (new : ℕ)
-    → taker (option_map (label_of cs) (smallest_of (fitting xs))) room (option_map (label_of cs) (smallest_of xs)) new ≡ home_of (decided room (weighed xs)) cs new
-decided_home cs xs room new = go (weighed xs) refl
-  where
-    settle : (f c r : Option Offer) → smallest_of (fitting xs) ≡ f → smallest_of xs ≡ c → weighed xs ≡ r → taker (option_map (label_of cs) f) room (option_map (label_of cs) c) new ≡ home_of (decided room r) cs new
-        → taker (option_map (label_of cs) (smallest_of (fitting xs))) room (option_map (label_of cs) (smallest_of xs)) new ≡ home_of (decided room (weighed xs)) cs new
-    settle f c r p q s h = ap (λ f. taker (option_map (label_of cs) f) room (option_map (label_of cs) (smallest_of xs)) new) p ∙ ap (λ c. taker (option_map (label_of cs) f) room (option_map (label_of cs) c) new) q ∙ h ∙ ap (λ r. home_of (decided room r) cs new) (sym s)
+module _ (cs : List Cluster) (room : Bool) (new : ℕ) where
+  settled : (f c : Option Offer) → ((x : Offer) → f ≡ Some x → x.fits ≡ true) → ((x : Offer) → f ≡ None → c ≡ Some x → x.fits ≡ false)
+      → taker (option_map (label_of cs) f) room (option_map (label_of cs) c) new ≡ home_of (decided room (rather f c)) cs new
+  settled (Some x) c t n = ap (λ b. home_of (cond (b || not room) (Some x.place) None) cs new) (sym (t x refl))
+  settled None (Some x) t n = go room ∙ ap (λ b. home_of (cond (b || not room) (Some x.place) None) cs new) (sym (n x refl refl))
+    where
+      go : (r : Bool) → taker None r (Some (label_at cs x.place)) new ≡ home_of (cond (not r) (Some x.place) None) cs new
+      go true = refl
+      go false = refl
+  settled None None t n = go room
+    where
+      go : (r : Bool) → taker None r None new ≡ new
+      go true = refl
+      go false = refl
 
-    none : (room : Bool) → taker None room None new ≡ new
-    none true = refl
-    none false = refl
-
-    fit : (b : Offer) (c : Option Offer) (t : Bool) → b.fits ≡ t → t ≡ true → label_at cs b.place ≡ home_of (decided room (Some b)) cs new
-    fit b c true f k = ap (λ t. home_of (cond (t || not room) (Some b.place) None) cs new) (sym f)
-    fit b c false f k = let z : ◌≡◌ {A = ℕ} 0 1 = cc in absurd (omega (arith, z))
-
-    misfit : (b : Offer) (room : Bool) → b.fits ≡ false → taker None room (Some (label_at cs b.place)) new ≡ home_of (decided room (Some b)) cs new
-    misfit b true f = ap (λ t. home_of (cond (t || false) (Some b.place) None) cs new) (sym f)
-    misfit b false f = ap (λ t. home_of (cond (t || true) (Some b.place) None) cs new) (sym f)
-
-    go : (r : Option Offer) → weighed xs ≡ r → taker (option_map (label_of cs) (smallest_of (fitting xs))) room (option_map (label_of cs) (smallest_of xs)) new ≡ home_of (decided room (weighed xs)) cs new
-    go None e = empty (smallest_of (fitting xs)) refl e
-      where
-        empty : (f : Option Offer) → smallest_of (fitting xs) ≡ f → rather f (smallest_of xs) ≡ None → taker (option_map (label_of cs) (smallest_of (fitting xs))) room (option_map (label_of cs) (smallest_of xs)) new ≡ home_of (decided room (weighed xs)) cs new
-        empty (Some x) h k = let z : ◌≡◌ {A = ℕ} 0 1 = cc in absurd (omega (arith, z))
-        empty None h k = settle None None None h k e (none room)
-    go (Some b) e = found (best_is xs b e)
-      where
-        found : Best xs b → taker (option_map (label_of cs) (smallest_of (fitting xs))) room (option_map (label_of cs) (smallest_of xs)) new ≡ home_of (decided room (weighed xs)) cs new
-        found (inl h) = settle (Some b) (smallest_of xs) (Some b) h.0 refl e (fit b None b.fits refl h.1)
-        found (inr h) = settle None (Some b) (Some b) (ap smallest_of h.0) h.1 e (misfit b room h.2)
+  -- as the rules say of the smallest that fits and of the smallest
+  pub decided_home : (xs : List Offer) → taker (option_map (label_of cs) (smallest_of (fitting xs))) room (option_map (label_of cs) (smallest_of xs)) new ≡ home_of (decided room (weighed xs)) cs new
+  decided_home xs = settled (smallest_of (fitting xs)) (smallest_of xs) (fits_first xs) (none_fits xs)
 
 pub decided_within : (n : ℕ) (room : Bool) (r : Option Offer) → ((b : Offer) → r ≡ Some b → b.place < n) → IfSome (decided room r) (λ i. i < n)
 decided_within n room None h = tt

@@ -1,6 +1,7 @@
 ghost use Rattle.std.specs.Prelude.{◌≡◌, ℕ, ◌<◌};
 ghost use Rattle.domain.specs.BoxLaws.{Allowed, Admitted};
 ghost use Rattle.domain.specs.Boxes.{box_loss};
+ghost use Rattle.domain.specs.Meaning.{places};
 ghost use Rattle.domain.specs.declared.range.Range as ranges;
 ghost use Rattle.choice.specs.Losses.{joined_losses, loss_beside, loss_read};
 
@@ -13,7 +14,7 @@ pub(crate) fn loss_joined<D: Domain, F: Fn(usize) -> Range>(
     bounds: &[Range; PLACES],
     other: F,
 ) -> u32
-    requires { (i : ℕ) → i < 6 → F.pre other i }
+    requires { (i : ℕ) → i < places → F.pre other i }
     ensures { (h : ℕ → ranges.Range) → ((i : ℕ) (r : ranges.Range) → F.post other i r → r ≡ h i) → result ≡ joined_losses (D.meaning d.now) bounds.now h }
 {
     let mut sum = 0;

@@ -1,8 +1,7 @@
 -- The table beside held records that change.
 use Rattle.std.proofs.Common.{◌≡◌, ℕ, zero, suc, ◌+◌, ◌-◌, ◌^◌, ◌<◌, ◌≤◌, min, Bool, true, false, cond, not, eqb, List, [], ◌∷◌, ◌++◌, map, length, get_or, set, filter, sym, refl, ap, ◌∙◌, subst, inl, inr, ⊎_elim, arith, Option, Some, None, is_some, MatchOption, nat_lt}
 use Rattle.std.specs.List.{remove, position_or_len, AllByRecursion}
-use Rattle.std.proofs.lemmas.List.{map-append, get_or-map, length-map}
-use Rattle.std.proofs.ByRecursion.{All-map, all_kept_by}
+use Rattle.std.proofs.lemmas.List.{map-append, map-id, get_or-map, length-map}
 use Rattle.std.proofs.lemmas.Bool.{eq-eqb, ne_eqb, eqb-true, eqb-false, cases_eq, not-true, not_from_false, ltb-false}
 use Rattle.std.proofs.lemmas.List.Quantifiers.{position-Some}
 use Rattle.std.proofs.lemmas.List.Sums.{fails_before_first}
@@ -14,10 +13,11 @@ use Rattle.rules.specs.declared.Held.{Held}
 use Rattle.rules.specs.Choosing.{In, listed}
 use Rattle.rules.specs.Laws.{Ascending}
 use Rattle.rules.specs.Around.{Fit}
-use Rattle.rules.specs.Clusters.{owner, owners, size, values, records, members, others, clusters, Box, widened, box_of, cost}
+use Rattle.rules.specs.Clusters.{owner, owners, size, values, members, others, clusters, Box, widened, box_of, cost}
 use Rattle.rules.specs.Turn.{merged}
-use Rattle.rules.proofs.Totals.{in_all, kept_in, in_kept, in_map, map_in}
-use Rattle.rules.proofs.Choices.{clusters_law, merger_law}
+use Rattle.rules.proofs.Totals.{in_all, kept_in, in_kept}
+use Rattle.rules.proofs.Choices.{clusters_law, merger_law, at_front, member_in, in_member}
+use Rattle.rules.proofs.Turns.{members_all}
 use Rattle.rules.proofs.Around.{boxes_stand}
 use Rattle.rules.proofs.Opened.{ascending_same, is_open, ascending_kept, clusters_others, clusters_push_old, clusters_push_new, clusters_merged, members_others}
 use Rattle.pool.specs.declared.Cluster.{Cluster}
@@ -33,7 +33,7 @@ module _ {X Y : Type 0} where
   map_same f g [] e = refl
   map_same f g (x ∷ xs) e = let p = e x (inl refl) in let q = map_same f g xs (λ y i. e y (inr i)) in cc
 
-  kept_map : (q : Y → Bool) (p : X → Bool) (f : X → Y) (xs : List X) → ((x : X) → q (f x) ≡ p x) → filter q (map f xs) ≡ map f (filter p xs)
+  pub kept_map : (q : Y → Bool) (p : X → Bool) (f : X → Y) (xs : List X) → ((x : X) → q (f x) ≡ p x) → filter q (map f xs) ≡ map f (filter p xs)
   kept_map q p f [] e = refl
   kept_map q p f (x ∷ xs) e = go (q (f x)) (p x) (e x) (kept_map q p f xs e)
     where
@@ -43,11 +43,7 @@ module _ {X Y : Type 0} where
       go true false k ih = let z : ◌≡◌ {A = ℕ} 0 1 = cc in absurd (omega arith)
       go false true k ih = let z : ◌≡◌ {A = ℕ} 0 1 = cc in absurd (omega arith)
 
-all_stay : {X : Type 0} (p : X → Bool) (xs : List X) → AllByRecursion (λ x. p x ≡ true) xs → filter p xs ≡ xs
-all_stay p [] a = refl
-all_stay p (x ∷ xs) a = ap (λ b. cond b (x ∷ filter p xs) (filter p xs)) a.0 ∙ ap (λ ys. x ∷ ys) (all_stay p xs a.1)
-
-map_map : {X Y Z : Type 0} (g : Y → Z) (f : X → Y) (xs : List X) → map g (map f xs) ≡ map (λ x. g (f x)) xs
+pub map_map : {X Y Z : Type 0} (g : Y → Z) (f : X → Y) (xs : List X) → map g (map f xs) ≡ map (λ x. g (f x)) xs
 map_map g f [] = refl
 map_map g f (x ∷ xs) = ap (λ zs. g (f x) ∷ zs) (map_map g f xs)
 
@@ -76,29 +72,20 @@ row_same : (m : Meaning) (hs ks : List Held) (c : ℕ) → members c ks ≡ memb
 row_same m hs ks c e = ap (row m c) e
 
 members_front : (c : ℕ) (h : Held) (hs : List Held) → members c (h ∷ hs) ≡ cond (eqb h.label c) (h.entry ∷ members c hs) (members c hs)
-members_front c h hs = go (eqb h.label c)
-  where
-    go : (b : Bool) → records (cond b (h ∷ filter (λ h. eqb h.label c) hs) (filter (λ h. eqb h.label c) hs)) ≡ cond b (h.entry ∷ members c hs) (members c hs)
-    go true = refl
-    go false = refl
+members_front c h hs = at_front c h hs (eqb h.label c) refl
 
 -- an open cluster has members, and what has members is open
 pub open_some : (hs : List Held) (c : ℕ) → In (clusters hs) c → (e : Entry) × In (members c hs) e
-open_some hs c i =
-    let r = (clusters_law hs).some_held c i in
-    (r.0.entry, in_map (λ (h : Held). h.entry) (filter (λ h. eqb h.label c) hs) r.0 (in_kept (λ h. eqb h.label c) hs r.0 r.1 (eq-eqb _ _ r.2)))
+open_some hs c i = let r = (clusters_law hs).some_held c i in (r.0.entry, member_in c hs r.0 r.1 r.2)
 
 pub some_open : (hs : List Held) (c : ℕ) (e : Entry) → In (members c hs) e → In (clusters hs) c
-some_open hs c e i =
-    let r = map_in (λ (h : Held). h.entry) (filter (λ h. eqb h.label c) hs) e i in
-    let k = kept_in (λ h. eqb h.label c) hs r.0 r.1 in
-    is_open c hs r.0 k.0 (eqb-true _ _ k.1)
+some_open hs c e i = let r = in_member c hs e i in is_open c hs r.0 r.1 r.2
 
 some_long : (es : List Entry) (e : Entry) → In es e → 1 ≤ length es
 some_long [] e i = absurd i
 some_long (x ∷ es) e i = omega arith
 
-open_long : (hs : List Held) (c : ℕ) → In (clusters hs) c → 1 ≤ length (members c hs)
+pub open_long : (hs : List Held) (c : ℕ) → In (clusters hs) c → 1 ≤ length (members c hs)
 open_long hs c i = let r = open_some hs c i in some_long (members c hs) r.0 r.1
 
 members_none : (c : ℕ) (hs : List Held) → AllByRecursion (λ h. h.label < c) hs → members c hs ≡ []
@@ -142,11 +129,7 @@ table_closed m c hs =
     ∙ sym (kept_map (λ x. not (eqb x.label c)) (λ d. not (eqb d c)) (cluster_of m hs) (clusters hs) (λ _. refl))
 
 pub labels_table : (m : Meaning) (hs : List Held) → labels (table m hs) ≡ clusters hs
-labels_table m hs = go (clusters hs)
-  where
-    go : (cs : List ℕ) → map (λ (x : Cluster). x.label) (map (cluster_of m hs) cs) ≡ cs
-    go [] = refl
-    go (c ∷ cs) = ap (λ ds. c ∷ ds) (go cs)
+labels_table m hs = map_map (λ (x : Cluster). x.label) (cluster_of m hs) (clusters hs) ∙ map-id (clusters hs)
 
 pub length_table : (m : Meaning) (hs : List Held) → length (table m hs) ≡ length (clusters hs)
 length_table m hs = length-map (clusters hs) (cluster_of m hs)
@@ -248,9 +231,6 @@ module _ (m : Meaning) (c : ℕ) (hs ks : List Held) (same : (d : ℕ) → (d �
 
 -- ---- a cluster takes over another
 
-fit_members : (m : Meaning) (c : ℕ) (hs : List Held) → AllByRecursion (λ h. Fit m h.entry) hs → AllByRecursion (Fit m) (members c hs)
-fit_members m c hs a = All-map (Fit m) (λ (h : Held). h.entry) (filter (λ h. eqb h.label c) hs) (all_kept_by (λ h. eqb h.label c) (λ (h : Held). Fit m h.entry) hs a)
-
 module _ (m : Meaning) (c e : ℕ) (hs : List Held) (n : c ≡ e → ⊥) (o : In (clusters hs) c) where
   table_merged : other_rows e (map (replaced (cluster_of m (merged c e hs) c)) (table m hs)) ≡ table m (merged c e hs)
   table_merged =
@@ -272,7 +252,7 @@ module _ (m : Meaning) (c e : ℕ) (hs : List Held) (n : c ≡ e → ⊥) (o : I
   -- the row of the cluster that takes over
   union_is : In (clusters hs) e → AllByRecursion (λ h. Fit m h.entry) hs → union m hs (cluster_of m hs c) (cluster_of m hs e) ≡ cluster_of m (merged c e hs) c
   union_is q a =
-      let b = sym (boxes_stand.joined m (members c hs) (members e hs) (members c (merged c e hs)) (open_long hs c o) (open_long hs e q) (fit_members m c hs a) (fit_members m e hs a) (merger_law c e hs).takes) in
+      let b = sym (boxes_stand.joined m (members c hs) (members e hs) (members c (merged c e hs)) (open_long hs c o) (open_long hs e q) (members_all (Fit m) c hs a) (members_all (Fit m) e hs a) (merger_law c e hs).takes) in
       ap (λ t. record { label = c; size = size (members c (merged c e hs)); loss = box_loss m t; bounds = t }) b
 
   merged_table : In (clusters hs) e → AllByRecursion (λ h. Fit m h.entry) hs → taken_over m hs (cluster_of m hs c) (cluster_of m hs e) (table m hs) ≡ table m (merged c e hs)
@@ -295,7 +275,7 @@ left_table m (x ∷ hs) i l =
 pub label_at_is : (xs : List Cluster) (i : ℕ) (x : Cluster) → i < length xs → x ≡ get_or xs i x → x.label ≡ label_at xs i
 label_at_is xs i x l e = ap (λ (y : Cluster). y.label) e ∙ sym (get_or-map (λ (y : Cluster). y.label) xs i x 0 l)
 
-labels_apart : (cs : List ℕ) (i j : ℕ) → Ascending cs → i < length cs → j < length cs → (i ≡ j → ⊥) → get_or cs i 0 ≡ get_or cs j 0 → ⊥
+pub labels_apart : (cs : List ℕ) (i j : ℕ) → Ascending cs → i < length cs → j < length cs → (i ≡ j → ⊥) → get_or cs i 0 ≡ get_or cs j 0 → ⊥
 labels_apart [] i j up l k n e = omega (arith, l)
 labels_apart (x ∷ xs) zero zero up l k n e = n refl
 labels_apart (x ∷ xs) zero (suc j) up l k n e = omega (arith, e, in_all (λ z. x < z) xs (get_or xs j 0) up.0 (in_getD xs j 0 (omega (arith, k))))

@@ -1,4 +1,4 @@
-use Rattle.std.proofs.Common.{◌≡◌, ltb, length, IfSome, IfNone, ◌<◌, ◌⊎◌, Some, None, Option, ℕ, sym, ap, ◌∙◌, subst}
+use Rattle.std.proofs.Common.{◌≡◌, ltb, length, IfSome, IfNone, ◌<◌, ◌⊎◌, sym, ap, ◌∙◌, subst}
 use Rattle.rules.specs.Clusters.{values}
 use Rattle.choice.specs.Offers.{offers, best_of, decided}
 use Rattle.choice.specs.Places.{home_of}

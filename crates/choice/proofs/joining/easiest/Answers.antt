@@ -1,4 +1,4 @@
-use Rattle.std.proofs.Common.{◌≡◌, ℕ, List, Option, MatchOption, ◌⊎◌, ◌<◌, ◌≤◌, None, rules, tests, eqb, not, length, map, filter, sym, refl, ap, ◌∙◌, arith, subst}
+use Rattle.std.proofs.Common.{◌≡◌, ℕ, List, MatchOption, ◌⊎◌, ◌<◌, ◌≤◌, rules, tests, eqb, not, length, map, filter, sym, ap, ◌∙◌, arith, subst}
 use Rattle.std.specs.Option.{option_map}
 use Rattle.std.specs.Ordering.{nat_cmp}
 use Rattle.std.specs.List.{enumerate_from}
@@ -9,7 +9,6 @@ use Rattle.pool.specs.declared.Cluster.{Cluster}
 use Rattle.pool.specs.Tables.{label_at}
 use Rattle.choice.specs.declared.joining.Rise.{Rise}
 use Rattle.choice.specs.Offers.{rise_of}
-use Rattle.choice.proofs.Labels.{row}
 use Rattle.choice.proofs.Lowest.{min_from_chain, least_reduced}
 use Rattle.choice.proofs.Rises.{rises, rises_by_place, other_is, easiest_is}
 use Rattle.choice.proofs.joining.easiest.Goals as goal

@@ -1,4 +1,4 @@
-use Rattle.std.proofs.Common.{◌≡◌, ◌-◌, rules, tests, ap, ◌∙◌}
+use Rattle.std.proofs.Common.{◌-◌, rules, tests, ap, ◌∙◌}
 use Rattle.domain.specs.Boxes.{range_at}
 use Rattle.choice.proofs.Widened.{losses_joined}
 use Rattle.choice.proofs.joining.Rise.of.Goals as goal
