@@ -28,7 +28,7 @@ impl<D: Domain + Drop> Stream<D> {
         ensures { Opens (D.meaning domain) domain settings result }
     {
         if let Some(refusal) = open_refusal(&domain, settings) {
-            return Err(OpenFault::Refused(refusal));
+            return Err(refusal.into());
         }
         let pool = Pool::reserve(heap)?;
         let ledger = Ledger::reserve(heap, settings.mu, settings.rho)?;

@@ -12,7 +12,7 @@ use release::Line;
 
 impl<D: Domain> Stream<D> {
     // The lines begin the list; the answer tells how many. Each turn writes a record, so as many turns as records are
-    // enough.
+    // enough. These are counted, since that a turn writes one is known of streams alone to which a run leads.
     pub(crate) fn drain(&mut self, list: &mut [Line]) -> usize
         ensures terms { SameTerms self.old self.new }
         ensures drained { open_refusal (D.meaning self.old.domain) self.old.settings ≡ None → Between (D.meaning self.old.domain) self.old.settings (view self.old) → Stands (D.meaning self.old.domain) self.old → length self.old.pool.held.items ≤ length list.old → Comes (D.meaning self.old.domain) (outcome_of (drain (D.meaning self.old.domain) self.old.settings (length self.old.pool.held.items) (view self.old))) list.old list.new result self.new }
