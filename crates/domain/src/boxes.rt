@@ -38,36 +38,23 @@ pub fn widen<D: Domain>(d: &D, bounds: &mut [Range; PLACES], values: &[u32; PLAC
     *bounds = join_boxes(d, bounds, &point_box(d, values));
 }
 
-// The loss of the box that has `range(i)` at each place `i`. No box is built.
-pub fn box_loss_by<D: Domain, F: Fn(usize) -> Range>(d: &D, range: F) -> u32
-    requires { (i : ℕ) → i < PLACES → F.pre range i }
-    ensures value { (f : ℕ → Range) → ((i : ℕ) (r : Range) → i < PLACES → F.post range i r → r ≡ f i) → result ≡ sum (map (λ i. loss_of (D.meaning d.now) i (f i)) (attributes (D.meaning d.now))) }
-    ensures bound { result ≤ full_loss * known_count (D.meaning d.now) }
-{
-    // By a loop: in a chain's closure `range` would have to answer every number.
-    let mut sum = 0;
-    for i in 0..d.width().min(PLACES) {
-        sum += d.loss(i, range(i));
-    }
-    sum
-}
-
 // The sum of the losses of its ranges.
 pub fn box_loss<D: Domain>(d: &D, bounds: &[Range; PLACES]) -> u32
     ensures value { result ≡ box_loss (D.meaning d.now) bounds.now }
     ensures bound { result ≤ full_loss * known_count (D.meaning d.now) }
     ensures least { Allowed (D.meaning d.now) bounds.now → LosesLeast (D.meaning d.now) bounds.now result }
 {
-    box_loss_by(d, |i| bounds[i])
+    let mut sum = 0;
+    // By a loop, since a chain's sum does not say that each loss is small enough for it to fit.
+    for i in 0..d.width().min(PLACES) {
+        sum += d.loss(i, bounds[i]);
+    }
+    sum
 }
 
 // Whether the box covers the values of the known attributes.
 pub fn covers<D: Domain>(d: &D, bounds: &[Range; PLACES], values: &[u32; PLACES]) -> bool
     ensures { result ≡ boxes.covers (D.meaning d.now) bounds.now values.now }
 {
-    bounds
-        .iter()
-        .zip(values)
-        .take(d.width())
-        .all(|(range, v)| range.covers(*v))
+    (0..d.width().min(PLACES)).all(|i| bounds[i].covers(values[i]))
 }

@@ -11,7 +11,7 @@ mod pair;
 mod range;
 mod width;
 
-pub use boxes::{box_loss, box_loss_by, covers, join_boxes, point_box, widen};
+pub use boxes::{box_loss, covers, join_boxes, point_box, widen};
 pub use interval::{Interval, IntervalFault};
 pub use pair::Pair;
 pub use range::Range;
