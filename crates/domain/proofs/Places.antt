@@ -5,7 +5,7 @@ use Rattle.std.proofs.lemmas.List.FromFn.{length-range_with_len, length-map-rang
 use Rattle.std.proofs.lemmas.List.{get_or_past}
 use Rattle.std.proofs.lemmas.List.Elements.{All-get_or, All-from_get_or}
 use Rattle.std.proofs.lemmas.List.Sums.{sum_by-cons, list_all-from_AllPass, AllPass-from_list_all}
-use Rattle.std.proofs.lemmas.Bool.{ltb-true, lt-ltb, leb-true, le-leb, and_parts, and_from, and_left, or_cases, cases_Bool, cases_lt, cond-true, cond-false, cond_both}
+use Rattle.std.proofs.lemmas.Bool.{ltb-true, lt-ltb, le-ltb, leb-true, le-leb, and_parts, and_from, and_left, or_cases, cases_Bool, cases_lt, cond-true, cond-false, cond_both}
 use Rattle.domain.specs.declared.range.Range.{Range}
 use Rattle.domain.specs.Ranges.{point, within, Inside}
 use Rattle.domain.specs.Meaning.{Meaning, full_loss, places, known, join_of, loss_of, Least}
@@ -203,6 +203,15 @@ box_semilattice m =
           (λ u. join_unknown m i (join_of m i (range_at a i) (range_at b i)) (range_at c i) u ∙ join_unknown m i (range_at a i) (range_at b i) u ∙ sym (join_unknown m i (range_at a i) (join_of m i (range_at b i) (range_at c i)) u))
           (cases_Bool (known m i)) ∙ sym (ap (join_of m i (range_at a i)) (at b c i l)) ∙ sym (at a (J b c) i l));
     }
+
+-- a box that was changed place by place, once the known ones are done
+pub widened_is : (m : Meaning) (b : List Range) (vs : List ℕ) (j : List Range) → length j ≡ places → ((k : ℕ) → k < known_count m → range_at j k ≡ join_of m k (range_at b k) (point (value_at vs k))) → ((k : ℕ) → known_count m ≤ k → range_at j k ≡ range_at b k) → j ≡ join_boxes m b (point_box m vs)
+unfolding join_boxes
+widened_is m b vs j six low high =
+    fill_by_all (λ i. join_of m i (range_at b i) (range_at (point_box m vs) i)) j places (point 0) six (λ k l. ⊎_elim
+    (λ in'. low k in' ∙ ap (join_of m k (range_at b k)) (sym (point_box_known m vs k (known_from m k in'))))
+    (λ out. high k out ∙ sym (join_unknown m k (range_at b k) (range_at (point_box m vs) k) (and_left _ _ (le-ltb k m.n (omega arith)))))
+    (cases_lt k (known_count m)))
 
 -- a box that took a record in
 pub widened_least : (m : Meaning) (b : List Range) (vs : List ℕ) → Allowed m b → Admitted m vs → LeastWider m b vs (join_boxes m b (point_box m vs))

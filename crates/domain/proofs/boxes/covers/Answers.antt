@@ -1,4 +1,4 @@
-use Rattle.std.proofs.Common.{refl, arith, rules, tests}
+use Rattle.std.proofs.Common.{arith, rules, tests}
 use Rattle.std.proofs.lemmas.Iterator.{YieldsList-from_range}
 use Rattle.std.proofs.lemmas.Iterator.Search.{all_from_yields_List}
 use Rattle.domain.specs.Boxes.{range_at, value_at, known_count, covers}

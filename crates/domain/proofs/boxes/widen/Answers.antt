@@ -1,13 +1,15 @@
-use Rattle.std.proofs.Common.{sym, ◌∙◌, ap, subst}
-use Rattle.domain.specs.Boxes.{join_boxes}
+use Rattle.std.proofs.Common.{◌≡◌, sym, subst, arith}
+use Rattle.domain.specs.Boxes.{point_box, join_boxes}
 use Rattle.domain.specs.BoxLaws.{LeastWider}
-use Rattle.domain.proofs.Places.{widened_least}
+use Rattle.domain.proofs.Places.{widened_is, widened_least}
 use Rattle.domain.proofs.boxes.widen.Goals as goal
 
-pub returns-clause-least : goal.returns-clause-least
-returns-clause-least g c p q =
+pub returns : goal.returns
+returns g c =
     let m = g.D.Domain.meaning c.args.d.now in
-    let bounds = c.args.bounds.now in
+    let old = c.args.bounds.now in
     let vs = c.args.values.now in
-    let e = c.join_boxes.ensures.value ∙ ap (join_boxes m bounds) c.point_box.ensures.value in
-    subst (LeastWider m bounds vs) (sym e) (widened_least m bounds vs p q)
+    let inv = c.loop-i.invariant in
+    let e : c.loop-i.bounds ≡ join_boxes m old (point_box m vs) =
+    widened_is m old vs c.loop-i.bounds inv.2 (λ k l. inv.0 k (omega arith)) (λ k l. inv.1 k (omega arith)) in
+    record { value = e; least = λ p q. subst (LeastWider m old vs) (sym e) (widened_least m old vs p q) }
