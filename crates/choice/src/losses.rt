@@ -18,7 +18,8 @@ pub(crate) fn loss_joined<D: Domain, F: Fn(usize) -> Range>(
     ensures { (h : ℕ → ranges.Range) → ((i : ℕ) (r : ranges.Range) → F.post other i r → r ≡ h i) → result ≡ joined_losses (D.meaning d.now) bounds.now h }
 {
     let mut sum = 0;
-    // By index, since the domain is asked by the attribute's number.
+    // By index, as the losses of a box are summed: one function of both would be public, and no public function asks of its
+    // caller that a closure may be called.
     for i in 0..d.width().min(PLACES) {
         sum += d.loss(i, d.join(i, bounds[i], other(i)));
     }

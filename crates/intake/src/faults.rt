@@ -52,6 +52,7 @@ impl FeedFault {
     }
 }
 
+// By hand, since contracts name the fault that `?` makes.
 impl From<LineFault> for FeedFault {
     ghost from_gives = { λ e r. r ≡ Line e };
 

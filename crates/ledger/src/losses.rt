@@ -45,6 +45,7 @@ impl Losses {
     {
         Mean {
             sum: self.latest.iter().map(|loss| u64::from(*loss)).sum(),
+            // No more than `window`, so the cast loses nothing.
             count: (self.latest.len() as u32).max(1),
         }
     }

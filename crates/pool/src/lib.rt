@@ -9,6 +9,7 @@ mod edits;
 mod members;
 mod places;
 
+pub use members::widened;
 pub use places::find;
 
 // An open cluster: its label, and of its members how many owners they have, their least box and its loss.
@@ -20,7 +21,8 @@ pub struct Cluster {
     pub bounds: [Range; PLACES],
 }
 
-// The held records, by position, and the open clusters, the oldest first.
+// The held records, by position, and the open clusters, the oldest first. That the memory stays is said of each change: an
+// invariant would say only that there is enough.
 #[derive(Drop)]
 pub struct Pool {
     pub held: Vec<Held>,

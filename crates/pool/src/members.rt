@@ -50,7 +50,7 @@ pub(crate) fn count_owners(held: &[Held], label: u32) -> usize
 }
 
 // The box, widened to cover the values; where there is none yet, the values' own.
-fn widened<D: Domain>(
+pub fn widened<D: Domain>(
     d: &D,
     bounds: Option<[Range; PLACES]>,
     values: &[u32; PLACES],

@@ -14,5 +14,6 @@ pub fn find(clusters: &[Cluster], label: u32) -> Option<usize>
     ensures found { In (labels clusters.now) label → MatchOption result ⊥ (λ i. (i < length clusters.now) × (label_at clusters.now i ≡ label)) }
     ensures held { (m : Meaning) (hs : List Held) (h : Held) → clusters.now ≡ table m hs → In hs h → h.label ≡ label → is_some result ≡ true }
 {
+    // From the first on: in a pool labels ascend, but not in every list.
     clusters.iter().position(|x| x.label == label)
 }

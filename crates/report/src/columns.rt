@@ -8,6 +8,7 @@ ghost use Rattle.report.specs.declared.faults.LineFault.TheVariants.{FieldKind};
 
 use crate::faults::LineFault;
 use crate::numbers::{number, reading};
+use domain::PLACES;
 use rfc4180::{Field, Location};
 
 // What a line reports: the values beyond the reader's width are 0. Its number and first byte tell where it came from.
@@ -16,7 +17,7 @@ pub struct Report {
     pub line: usize,
     pub byte: usize,
     pub owner: u32,
-    pub values: [u32; 6],
+    pub values: [u32; PLACES],
     pub reading: i32,
 }
 
@@ -68,7 +69,7 @@ impl<'a> Row<'a> {
         ensures { result ≡ of_columns self.now.start.line self.now.start.byte (map field_text self.now.fields.now) (columns (suc width) (map field_text self.now.fields.now)) }
     {
         let owner = self.parsed(0, number)?;
-        let mut values = [0; 6];
+        let mut values = [0; PLACES];
         for (i, value) in values[..width].iter_mut().enumerate() {
             *value = self.parsed(i + 1, number)?;
         }

@@ -6,16 +6,16 @@ use Rattle.rules.specs.declared.Entry.{Entry}
 use Rattle.rules.specs.Clusters.{Box, no_box, values, widened, box_of}
 use Rattle.split.specs.declared.Member.{Member}
 use Rattle.split.specs.Parted.{of_part, entries, says, marked}
-use Rattle.split.specs.Settling.{with_one}
+use Rattle.pool.specs.Tables as tables
 
 -- ---- the box, as `fold` makes it
 
 module _ (m : Meaning) where
-  widens : (b : Box) (ms : List Member) → fold (λ o x. Some (with_one m o x.entry)) (Some b) ms ≡ Some (fold (widened m) b (entries ms))
+  widens : (b : Box) (ms : List Member) → fold (λ o x. Some (tables.widened m o (values x.entry))) (Some b) ms ≡ Some (fold (widened m) b (entries ms))
   widens b [] = refl
   widens b (x ∷ ms) = widens (widened m b x.entry) ms
 
-  pub boxes_fold : (ms : List Member) → unwrap_or (fold (λ o x. Some (with_one m o x.entry)) None ms) no_box ≡ box_of m (entries ms)
+  pub boxes_fold : (ms : List Member) → unwrap_or (fold (λ o x. Some (tables.widened m o (values x.entry))) None ms) no_box ≡ box_of m (entries ms)
   boxes_fold [] = refl
   boxes_fold (x ∷ ms) = ap (λ o. unwrap_or o no_box) (widens (point_box m (values x.entry)) ms)
 

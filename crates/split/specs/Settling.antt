@@ -13,11 +13,6 @@ use Rattle.split.specs.declared.Part.{Part}
 use Rattle.split.specs.Faces.{place_in}
 use Rattle.split.specs.Parted.{of_part, part_of}
 
--- the box of the records so far, if any, once it takes in one more
-abbrev pub with_one : Meaning → Option Box → Entry → Box
-with_one m None e = point_box m (values e)
-with_one m (Some b) e = widened m b e
-
 -- by how much the record widens the part's box
 abbrev pub box_growth : Meaning → Entry → Part → ℕ
 box_growth m e p = box_loss m (widened m p.bounds e) - p.loss

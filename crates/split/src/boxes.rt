@@ -2,24 +2,10 @@ ghost use Rattle.std.specs.Prelude.{◌≡◌, ◌≤◌, map, vec_len, vec_capa
 ghost use Rattle.std.specs.List.{range_with_len};
 ghost use Rattle.rules.specs.Clusters.{box_of};
 ghost use Rattle.split.specs.Parted.{marked, part_of};
-ghost use Rattle.split.specs.Settling.{with_one};
 
 use crate::{Member, Part};
-use domain::{Domain, PLACES, Range, box_loss, point_box, widen};
-use rules::Entry;
-
-// The box of the records so far, if any, once it takes in one more.
-fn with_one<D: Domain>(d: &D, bounds: Option<[Range; PLACES]>, e: &Entry) -> [Range; PLACES]
-    ensures { result ≡ with_one (D.meaning d.now) bounds e.now }
-{
-    match bounds {
-        None => point_box(d, &e.fed.values),
-        Some(mut wider) => {
-            widen(d, &mut wider, &e.fed.values);
-            wider
-        }
-    }
-}
+use domain::{Domain, PLACES, Range, box_loss};
+use pool::widened;
 
 // The least box around the members of the part.
 fn box_around<D: Domain>(d: &D, members: &[Member], part: usize) -> [Range; PLACES]
@@ -28,10 +14,9 @@ fn box_around<D: Domain>(d: &D, members: &[Member], part: usize) -> [Range; PLAC
     members
         .iter()
         .filter(|member| member.part == Some(part))
-        .fold(
-            None,
-            |bounds, member| Some(with_one(d, bounds, &member.entry)),
-        )
+        .fold(None, |bounds, member| {
+            Some(widened(d, bounds, &member.entry.fed.values))
+        })
         .unwrap_or([Range::point(0); PLACES])
 }
 
@@ -54,6 +39,7 @@ pub(crate) fn measure<D: Domain>(d: &D, members: &[Member], made: usize, parts: 
     ensures capacity { vec_capacity parts.new ≡ vec_capacity parts.old }
 {
     parts.clear();
+    // A part is known by its number.
     for j in 0..made {
         parts.push_reserved(part_of(d, members, j));
     }

@@ -44,6 +44,7 @@ pub(crate) fn unfit<D: Domain>(d: &D, fed: &Record) -> Option<u32>
     if fed.owner == 0 {
         return Some(1);
     }
+    // A place is below 6, so the cast loses nothing.
     (0..d.width().min(PLACES))
         .find(|&i| !d.admits(i, fed.values[i]))
         .map(|i| i as u32 + 2)

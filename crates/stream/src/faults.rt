@@ -15,6 +15,7 @@ pub enum OpenFault {
     Memory,
 }
 
+// By hand, since contracts name the fault that `?` makes.
 impl From<OpenRefusal> for OpenFault {
     ghost from_gives = { λ e r. r ≡ Refused e };
 

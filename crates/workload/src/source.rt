@@ -56,6 +56,7 @@ impl Source {
         ensures source { self.new.x ≡ ahead 1 self.old.x }
     {
         self.turn();
+        // Below `n`, so the cast loses nothing.
         ((self.x >> 32) * u64::from(n) >> 32) as u32
     }
 
@@ -70,6 +71,7 @@ impl Source {
         ensures value { result ≡ reading_of (drawn self.old.x 1 20001) }
         ensures source { self.new.x ≡ ahead 1 self.old.x }
     {
+        // At most 20,000, so the cast loses nothing.
         self.below(20_001) as i32 - 10_000
     }
 

@@ -52,6 +52,7 @@ impl<'a> Reader<'a> {
         };
         let width = self.width.count();
         let wanted = width + 2;
+        // As many as a line of six attributes has: nothing is allocated while a line is read.
         let mut fields = [Field::Plain(b""); 8];
         let line = self.lex(&mut fields)?;
         if line.fields != wanted {

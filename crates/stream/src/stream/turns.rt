@@ -21,7 +21,8 @@ use ledger::KeptBox;
 use release::{Line, Manner};
 use rules::Held;
 
-// The five rules of a turn, in the order in which they are tried.
+// The five rules of a turn, in the order in which they are tried. They are values and no closures, so that a contract says
+// which one it is.
 pub(crate) enum Rule {
     Large,
     Covered(KeptBox),

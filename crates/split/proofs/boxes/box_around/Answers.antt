@@ -1,9 +1,9 @@
 use Rattle.std.proofs.Common.{◌≡◌, Some, None, unwrap_or, filter, ap, ◌∙◌, rules, tests}
 use Rattle.std.proofs.lemmas.Iterator.{YieldsList-from_slice}
 use Rattle.std.proofs.lemmas.Iterator.Consumers.{YieldsList-from_filter, fold_from_yields_List}
-use Rattle.rules.specs.Clusters.{no_box}
+use Rattle.rules.specs.Clusters.{no_box, values}
 use Rattle.split.specs.Parted.{says}
-use Rattle.split.specs.Settling.{with_one}
+use Rattle.pool.specs.Tables.{widened}
 use Rattle.split.proofs.Marked.{boxes_fold}
 use Rattle.split.proofs.boxes.box_around.Goals as goal
 
@@ -12,7 +12,7 @@ returns g c =
     let m = g.D.Domain.meaning c.args.d.now in
     let j = c.args.part in
     let ms = c.args.members.now in
-    let folded = fold_from_yields_List _ (λ b x. Some (with_one m b x.entry)) None c.fold.result c.fold.ensures.ran
+    let folded = fold_from_yields_List _ (λ b x. Some (widened m b (values x.entry))) None c.fold.result c.fold.ensures.ran
     (YieldsList-from_filter _ (λ x. says j x.part) (YieldsList-from_slice ms cc) c.filter.ensures.closure (λ x b q k. search (rules, tests)))
     (λ a x b q k. search (rules, tests)) in
     let base : c.unwrap_or.result ≡ unwrap_or c.fold.result no_box = search rules in
