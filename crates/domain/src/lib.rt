@@ -28,7 +28,7 @@ pub const PLACES: usize = 6;
 pub trait Domain {
     ghost meaning: { Self → Meaning };
 
-    // The number of attributes, or 7 for seven and more.
+    // The number of attributes, or 7 for seven and more, which are refused alike.
     fn width(&self) -> usize
         ensures { result ≡ width_of (meaning self.now) };
 

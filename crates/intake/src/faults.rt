@@ -9,7 +9,7 @@ use rules::Refusal;
 use thiserror::Error;
 
 // A refusal of feeding, and the line that the record came from: its number and its first byte. Both are 0 where it came
-// from no line.
+// from no line: so it is told.
 #[derive(Clone, Copy, Debug, PartialEq, Eq, Error)]
 #[error("{refusal}")]
 pub struct FeedRefusal {

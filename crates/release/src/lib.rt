@@ -57,7 +57,7 @@ impl fmt::Display for Manner {
 }
 
 // A line of a release list: a record's position and reading, and the box that it goes out in. A suppressed record has
-// the box number 0; ranges that are not used are (0, 0).
+// the box number 0, and ranges that are not used are (0, 0): so lines are written.
 #[derive(Clone, Copy, Debug, PartialEq, Eq)]
 pub struct Line {
     pub position: u32,

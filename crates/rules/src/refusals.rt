@@ -60,7 +60,7 @@ impl Refusal {
         }
     }
 
-    // 0 where no column is at fault.
+    // 0 where no column is at fault: so it is told.
     pub fn column(self) -> u32
         ensures { result ≡ refusal_column self }
     {
