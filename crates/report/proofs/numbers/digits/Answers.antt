@@ -16,3 +16,10 @@ loop-b-preserved c =
       power n c.loop-b.b-index d c.loop-b.invariant.2 (omega arith),
       digit_more n c.args.text.now c.loop-b.b-index (omega arith) digit.value ∙ c.loop-b.invariant.3,
     )
+
+pub overflow_add-value : goal.overflow_add-value
+overflow_add-value c =
+    let n = c.loop-b.invariant.0 in
+    let at_most : length c.args.text.now ≤ 10 = grind (arith, common_steps) in
+    let small = short n c.loop-b.b-index c.loop-b.invariant.2 (omega arith) in
+    omega (arith, ints)

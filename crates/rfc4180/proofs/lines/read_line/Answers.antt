@@ -21,11 +21,6 @@ behind_comma-at-requires c =
     let size = fits c.loop-field.invariant c.in_ok-field.field _ _ c.in_ok-field.ensures.told c.put.ensures (ap (λ n. c.loop-field.at.byte + n) c.size.ensures) (sym c.in-Comma.ensures) in
     (omega arith, omega arith)
 
-pub loop-field-smaller : goal.loop-field-smaller
-loop-field-smaller c =
-    let size = fits c.loop-field.invariant c.in_ok-field.field _ _ c.in_ok-field.ensures.told c.put.ensures (ap (λ n. c.loop-field.at.byte + n) c.size.ensures) (sym c.in-Comma.ensures) in
-    omega (arith, ap (λ l. l.byte) c.behind_comma-at.ensures)
-
 pub loop-field-preserved : goal.loop-field-preserved
 loop-field-preserved c =
     subst (λ l. Sofar c.args.text.now c.args.place c.args.number c.args.fields.now l c.put.new.fields) (sym c.behind_comma-at.ensures)

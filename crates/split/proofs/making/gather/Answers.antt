@@ -20,13 +20,3 @@ returns-in-Some g c =
       fewer = λ _. subst (λ l. length (remaining l) < length (remaining fs)) (sym c.join.ensures) (joined_fewer_by_one (names c.items.result.now) c.args.part fs s first);
       next = λ es ps p e l h. c.join.ensures ∙ gathered m n c.args.part es ps p s fs c.items.result.now e l first items h;
     }
-
-pub returns-in_default : goal.returns-in_default
-returns-in_default g c =
-    let m = g.D.Domain.meaning c.args.d.now in
-    let fs = c.args.faces.now in
-    let none = sym c.in_default.ensures in
-    record {
-      fewer = λ l. absurd (omega (arith, l, head_none (remaining fs) none));
-      next = λ es ps p e l h. absurd (no_next m (length c.args.near.now + 1) es (remaining fs) p none h);
-    }

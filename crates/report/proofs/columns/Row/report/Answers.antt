@@ -3,9 +3,6 @@ use Rattle.rfc4180.specs.Told.{field_text}
 use Rattle.report.proofs.Parsed.{number_at, reading_at, begun, value_spoilt, one_more, reading_spoilt, done, padded}
 use Rattle.report.proofs.columns.Row.report.Goals as goal
 
-pub loop-i-init : goal.loop-i-init
-loop-i-init c = begun c.args.self.now.fields.now c.args.width c.requires.count c.in_ok-owner.owner _ (search rules)
-
 pub returns-in_err-value : goal.returns-in_err-value
 returns-in_err-value c =
     let fields = c.args.self.now.fields.now in

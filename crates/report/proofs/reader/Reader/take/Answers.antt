@@ -35,13 +35,6 @@ invariant_of-row c =
     let start : self.place < length self.text.now = c.requires in
     record { fits = omega arith }
 
-pub report-requires : goal.report-requires
-report-requires c =
-    let wanted : c.count-width.result ≡ c.args.self.now.width.count = c.count-width.ensures in
-    let few = c.args.self.now.width.few in
-    let eight : length c.lex.new.fields ≡ 8 = omega arith in
-    record { count = length-take-le (c.count-width.result + 2) c.lex.new.fields (omega arith); narrow = omega arith }
-
 pub returns : goal.returns
 returns c =
     let self = c.args.self.now in
