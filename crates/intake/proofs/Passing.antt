@@ -1,14 +1,12 @@
 -- From a call's answer to what is passed on. Assumes nothing.
-use Rattle.std.proofs.Common.{◌≡◌, ℕ, Some, None, Ok, Err, Option, Result, sym, refl, ap, ◌∙◌, arith}
+use Rattle.std.proofs.Common.{◌≡◌, Some, None, Ok, Err, Option, Result, sym, ap, ◌∙◌, arith}
 use Rattle.std.specs.Option.{option_map}
-use Rattle.std.specs.Result.{result_map_both, result_err}
 use Rattle.report.specs.declared.columns.Report.{Report}
 use Rattle.report.specs.declared.faults.LineFault.{LineFault}
 use Rattle.report.specs.Lines.{Outcome, told}
 use Rattle.rules.specs.declared.refusals.Refusal.{Refusal}
 use Rattle.intake.specs.declared.faults.FeedRefusal.{FeedRefusal}
-use Rattle.stream.specs.Calls.{refusal_of}
-use Rattle.intake.specs.Feeding.{at_line, without_line}
+use Rattle.intake.specs.Feeding.{at_line}
 
 -- a refusal that is told with a line is that line's
 pub of_line : (x : Report) (f : FeedRefusal) (o : Option Refusal) → Some f ≡ option_map (at_line x) o → f ≡ at_line x f.refusal
@@ -21,12 +19,3 @@ of_line x f (Some y) e =
 pub taken : (o : Result Report LineFault) (x : Report) → ◌≡◌ {A = Option Outcome} (Some (told o)) (Some (Ok x)) → o ≡ Ok x
 taken (Ok y) x e = let same : y ≡ x = grind arith in ap Ok same
 taken (Err y) x e = grind arith
-
--- an answer whose refusal is told with a line
-pub err_passed : (f : Refusal → FeedRefusal) (r : Result ℕ Refusal) → result_err (result_map_both (λ n. n) f r) ≡ option_map f (refusal_of r)
-err_passed f (Ok n) = refl
-err_passed f (Err e) = refl
-
-pub line_dropped : (x : Report) (r : Result ℕ Refusal) → without_line (result_map_both (λ n. n) (at_line x) r) ≡ r
-line_dropped x (Ok n) = refl
-line_dropped x (Err e) = refl

@@ -1,11 +1,11 @@
 -- Leftover owners beside the parts made, for the functions inside. Assumes nothing.
-use Rattle.std.specs.Prelude.{◌≡◌, ℕ, ◌+◌, ◌-◌, ◌≤◌, cond, List, map, length, Some, None, Option, ◌==◌, nat_lt}
+use Rattle.std.specs.Prelude.{◌≡◌, ℕ, ◌+◌, ◌-◌, ◌≤◌, cond, List, map, length, Some, ◌==◌, nat_lt}
 use Rattle.std.specs.List.{AllByRecursion, IsFirstBest}
 use Rattle.domain.specs.Meaning.{Meaning}
-use Rattle.domain.specs.Boxes.{box_loss, point_box}
+use Rattle.domain.specs.Boxes.{box_loss}
 use Rattle.rules.specs.declared.Entry.{Entry}
 use Rattle.rules.specs.Choosing.{total}
-use Rattle.rules.specs.Clusters.{Box, owner, values, owners, widened}
+use Rattle.rules.specs.Clusters.{owner, owners, widened}
 use Rattle.rules.specs.Promise.{one}
 use Rattle.rules.specs.Split.{part}
 use Rattle.split.specs.declared.Member.{Member}

@@ -1,9 +1,9 @@
-use Rattle.std.proofs.Common.{◌≡◌, ◌+◌, ◌<◌, List, map, length, Some, sym, ap, ◌∙◌, subst, arith}
+use Rattle.std.proofs.Common.{◌≡◌, ◌<◌, List, map, length, Some, sym, ap, ◌∙◌, subst}
 use Rattle.keeper.specs.Leasts.{leasts}
 use Rattle.rules.specs.Choosing.{head}
 use Rattle.split.specs.declared.near.Neighbour.{Neighbour}
 use Rattle.split.specs.Near.{rank_of, neighbour, names, remaining, others_than}
-use Rattle.split.proofs.Rounds.{joined_fewer_by_one, gathered, head_none, no_next}
+use Rattle.split.proofs.Rounds.{joined_fewer_by_one, gathered}
 use Rattle.split.proofs.making.gather.Goals as goal
 
 pub returns-in-Some : goal.returns-in-Some

@@ -1,10 +1,7 @@
-use Rattle.std.proofs.Common.{◌≤◌, length, sym, refl, ◌∙◌, arith}
+use Rattle.std.proofs.Common.{◌≤◌, length, sym, ◌∙◌, arith}
 use Rattle.std.proofs.lemmas.List.Edits.{length-between}
-use Rattle.stream.proofs.Outputs.{Given, out_none, priced, low, enough, out_more, out_all}
+use Rattle.stream.proofs.Outputs.{Given, priced, low, enough, out_more, out_all}
 use Rattle.stream.proofs.releases.release_parts.Goals as goal
-
-pub loop-j-init : goal.loop-j-init
-loop-j-init c = record { window = refl; out = λ m g k es given. out_none given; fits = omega arith }
 
 pub loop-j-preserved : goal.loop-j-preserved
 loop-j-preserved c =

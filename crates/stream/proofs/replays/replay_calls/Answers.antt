@@ -14,9 +14,6 @@ use Rattle.stream.proofs.replays.replay_calls.Goals as goal
 abbrev no_call : Call
 no_call = Feed (record { owner = 0; values = []; reading = pos 0 })
 
-pub shape_of-list-in_err-extend_from_slice : goal.shape_of-list-in_err-extend_from_slice
-shape_of-list-in_err-extend_from_slice g c = c.make-n.auto.list ∙ c.loop-call.invariant.1
-
 pub returns-in_err-extend_from_slice : goal.returns-in_err-extend_from_slice
 returns-in_err-extend_from_slice g c =
     let p = err_from_is_err_and c.from_residual-in_err-extend_from_slice.result c.from_residual-in_err-extend_from_slice.ensures.1 in
@@ -40,9 +37,6 @@ loop-call-preserved g c =
       subst (λ xs. Plays m start.settings c.args.calls.now (length c.args.list.now) (c.loop-call.call-index + 1) t xs) (sym c.in_ok-extend_from_slice.ensures.items)
           (subst (λ k. Plays m start.settings c.args.calls.now (length c.args.list.now) (c.loop-call.call-index + 1) t (vec_items c.loop-call.lines ++ take k c.make-n.new.list)) from_start more),
     )
-
-pub shape_of-list : goal.shape_of-list
-shape_of-list g c = c.loop-call.invariant.1
 
 pub returns : goal.returns
 returns g c =

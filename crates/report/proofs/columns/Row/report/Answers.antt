@@ -1,6 +1,6 @@
 use Rattle.std.proofs.Common.{◌≡◌, ◌+◌, ℕ, length, map, Some, None, arith, rules, length-take-le}
 use Rattle.rfc4180.specs.Told.{field_text}
-use Rattle.report.proofs.Parsed.{number_at, reading_at, begun, value_spoilt, one_more, reading_spoilt, done, padded}
+use Rattle.report.proofs.Parsed.{number_at, reading_at, value_spoilt, one_more, reading_spoilt, done, padded}
 use Rattle.report.proofs.columns.Row.report.Goals as goal
 
 pub returns-in_err-value : goal.returns-in_err-value

@@ -1,4 +1,4 @@
-use Rattle.std.proofs.Common.{◌≡◌, suc, ◌+◌, ◌<◌, length, drop, Err, sym, ap, ◌∙◌, arith, length-drop, length-take-le}
+use Rattle.std.proofs.Common.{◌≡◌, suc, ◌+◌, ◌<◌, length, drop, Err, sym, ap, ◌∙◌, arith, length-drop}
 use Rattle.rfc4180.specs.Grammar.{with_commas}
 use Rattle.rfc4180.specs.Reading.{read_line}
 use Rattle.rfc4180.specs.Told.{fields_of}

@@ -1,16 +1,8 @@
-use Rattle.std.proofs.Common.{◌≡◌, suc, ◌+◌, ◌-◌, ◌<◌, length, vec_items, refl, ap, ◌∙◌, subst, inl, inr, arith, rules, tests}
+use Rattle.std.proofs.Common.{◌≡◌, suc, ◌+◌, ◌-◌, ◌<◌, length, vec_items, ap, ◌∙◌, subst, inl, inr, arith, rules, tests}
 use Rattle.std.proofs.lemmas.List.{nil_from_length}
 use Rattle.std.proofs.lemmas.List.Edits.{length-between}
-use Rattle.stream.proofs.Emptying.{Empties, empties_none, empties_more, empties_end}
+use Rattle.stream.proofs.Emptying.{Empties, empties_more, empties_end}
 use Rattle.stream.proofs.stream.Stream.drain.Goals as goal
-
-pub loop-init : goal.loop-init
-loop-init g c =
-    let s = c.args.self.now in
-    let m = g.D.Domain.meaning s.domain in
-    let n = c.len-end.result in
-    let all : n ≡ n - 0 = omega arith in
-    record { terms = record { domain = refl; settings = refl }; empties = λ f. subst (λ r. Empties m s c.args.list.now n r s c.args.list.now 0) all (empties_none m s c.args.list.now n f); fits = omega arith }
 
 pub loop-preserved : goal.loop-preserved
 loop-preserved g c =
