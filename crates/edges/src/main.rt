@@ -1,8 +1,8 @@
 // Reads texts at the edges of what a report line may be, and tells what becomes of each line.
 #![tactic(auto)]
 
-ghost use Rattle.std.specs.Prelude.{◌≡◌, ◌++◌, replicate, IfOk};
-ghost use Rattle.std.specs.List.{concat};
+ghost use Rattle.std.specs.Prelude.{◌≡◌, ◌++◌, IfOk};
+ghost use Rattle.std.specs.List.{repeat};
 
 use filter::{Findings, LIMIT, survey};
 use report::{LineFault, Reader, Report, Width};
@@ -49,8 +49,7 @@ impl fmt::Display for Case {
             Ok(width) => width,
             Err(fault) => return write!(f, "\n  {}", fault.number()),
         };
-        let mut reader = Reader::begin(self.text, width);
-        while let Some(outcome) = reader.next_line() {
+        for outcome in Reader::begin(self.text, width) {
             write!(f, "\n  {}", Told(outcome))?;
         }
         Ok(())
@@ -62,14 +61,11 @@ const SOUND: &[u8] = b"12,40,2,-7\r\n";
 
 // A torn line, and a hundred sound ones behind it.
 fn torn(heap: Global, line: &[u8]) -> Result<Vec<u8>, AllocError>
-    ensures { IfOk result (λ v. v.items ≡ line.now ++ concat (replicate 100 SOUND.now)) }
+    ensures { IfOk result (λ v. v.items ≡ line.now ++ repeat 100 SOUND.now) }
 {
     let mut text = Vec::new(heap);
     text.extend_from_slice(line)?;
-    // std repeats no slice.
-    for _i in 0..100usize {
-        text.extend_from_slice(SOUND)?;
-    }
+    text.extend_from_slice(&SOUND.repeat(heap, 100)?)?;
     Ok(text)
 }
 
