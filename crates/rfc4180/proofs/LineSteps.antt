@@ -1,14 +1,8 @@
 -- One step of reading a line, and of looking for the next one. Assumes nothing.
-use Rattle.std.proofs.Common.{Bool, not, ltb, Some, None, Option, subst, ◌≡◌, ℕ, zero, suc, ◌+◌, ◌-◌, ◌<◌, ◌≤◌, min, true, false, cond, ◌&&◌, eqb, List, [], ◌∷◌, length, take, drop, sym, refl, ap, ◌∙◌, ⊎_elim, arith, length-drop}
+use Rattle.std.proofs.Common.{◌≡◌, ℕ, zero, suc, ◌+◌, ◌-◌, ◌<◌, ◌≤◌, min, true, false, cond, ◌&&◌, eqb, List, [], ◌∷◌, length, drop, sym, refl, ap, ◌∙◌, ⊎_elim, arith, length-drop}
 use native.Mathlib.Nat.{min-eq_left, min-eq_right}
 use Rattle.std.proofs.lemmas.List.{drop_all, drop-drop}
-use Rattle.std.specs.Cmp.Lexicographic.{pointwise}
-use Rattle.std.specs.List.{position_or_len}
-use Rattle.std.specs.Slice.Iter.{windows_rest, windows_size, windows_steps}
-use Rattle.std.specs.declared.slice.Windows.{Windows}
-use Rattle.std.proofs.lemmas.Iterator.{YieldsList}
-use Rattle.std.proofs.lemmas.Iterator.Splits.{YieldsList-from_shown_while}
-use Rattle.std.proofs.lemmas.Bool.{lt-ltb, le-ltb, cases_lt, cases_Bool, cond-true, cond-false, and_parts, both_ways}
+use Rattle.std.proofs.lemmas.Bool.{cases_lt, cases_Bool, cond-true, cond-false, and_parts, both_ways}
 use Rattle.rfc4180.specs.Grammar.{FieldText, written}
 use Rattle.rfc4180.specs.Reading.{begins_with_lf, behind_line_end, FieldRead, whole, faulty, LineRead, cut, before, read_field, behind_field, after_field, read_fields, read_line}
 
@@ -18,87 +12,6 @@ drop_clipped n xs =
     (λ h. let k : n ≤ length xs = omega arith in ap (λ i. drop i xs) (min-eq_left k))
     (λ h. ap (λ i. drop i xs) (min-eq_right h) ∙ drop_all (length xs) xs (omega arith) ∙ sym (drop_all n xs h))
     (cases_lt n (length xs))
-
--- every two neighbours, and the first place at which CR LF stands
-
-abbrev pub pairs : List ℕ → List (List ℕ)
-pairs [] = []
-pairs (x ∷ []) = []
-pairs (x ∷ y ∷ ys) = (x ∷ y ∷ []) ∷ pairs (y ∷ ys)
-
-abbrev pub is_line_end : List ℕ → Bool
-is_line_end pair = pointwise eqb pair (13 ∷ 10 ∷ [])
-
-abbrev pub first_end : List ℕ → ℕ
-first_end xs = position_or_len is_line_end (pairs xs)
-
-pub record EndsAt (xs : List ℕ) (i : ℕ) : Type 0 where
-  pub within : i + 2 ≤ length xs
-  pub behind : drop (i + 2) xs ≡ behind_line_end xs
-
-and_true : (t : Bool) → (t && true) ≡ t
-and_true true = refl
-and_true false = refl
-
-no_pairs : (xs : List ℕ) → length xs < 2 → length (pairs xs) ≡ 0
-no_pairs [] h = refl
-no_pairs (x ∷ []) h = refl
-no_pairs (x ∷ y ∷ ys) h = absurd (omega arith)
-
-pairs_cons : (xs w ys : List ℕ) → 2 ≤ length xs → w ≡ take 2 xs → ys ≡ drop 1 xs → pairs xs ≡ w ∷ pairs ys
-pairs_cons [] w ys h p q = absurd (omega arith)
-pairs_cons (x ∷ []) w ys h p q = absurd (omega arith)
-pairs_cons (x ∷ y ∷ zs) w ys h p q = let e = ap pairs q in cc
-
-pub windows_pairs : (s : Windows ℕ) → windows_size s ≡ 2 → YieldsList (windows_steps {A = ℕ}) (λ y. y.now) s (pairs (windows_rest s))
-windows_pairs s h =
-    YieldsList-from_shown_while (windows_steps {A = ℕ}) (λ y. y.now) (λ s. pairs (windows_rest s)) (λ s. windows_size s ≡ 2)
-    (λ s t p st. no_pairs (windows_rest s) (omega (arith, st.1.0)))
-    (λ s x t p st. (st.0 ∙ p, pairs_cons (windows_rest s) x.now (windows_rest t) (omega (arith, st.1.0)) (st.1.1 ∙ ap (λ k. take k (windows_rest s)) p) st.1.2))
-    s h
-
-pub end_at : (xs : List ℕ) → first_end xs < length (pairs xs) → EndsAt xs (first_end xs)
-end_at [] h = absurd (omega arith)
-end_at (x ∷ []) h = absurd (omega arith)
-end_at (x ∷ y ∷ ys) h =
-    let t = is_line_end (x ∷ y ∷ []) in
-    let n = first_end (y ∷ ys) in
-    let same : t ≡ (eqb x 13 && eqb y 10) = ap (λ u. eqb x 13 && u) (and_true (eqb y 10)) in
-    ⊎_elim
-    (λ e. subst (EndsAt (x ∷ y ∷ ys)) (sym (cond-false (not t) (1 + n) 0 (ap not e))) (record { within = omega arith; behind = sym (cond-true (eqb x 13 && eqb y 10) ys (behind_line_end (y ∷ ys)) (sym same ∙ e)) }))
-    (λ e.
-    let i = cond-true (not t) (1 + n) 0 (ap not e) in
-    let rest = end_at (y ∷ ys) (omega (arith, i)) in
-    let k : 1 + n + 2 ≡ suc (n + 2) = omega arith in
-    subst (EndsAt (x ∷ y ∷ ys)) (sym i) (record { within = omega (arith, rest.within); behind = ap (λ j. drop j (x ∷ y ∷ ys)) k ∙ rest.behind ∙ sym (cond-false (eqb x 13 && eqb y 10) ys (behind_line_end (y ∷ ys)) (sym same ∙ e)) }))
-    (cases_Bool t)
-
-pub no_end : (xs : List ℕ) → length (pairs xs) ≤ first_end xs → behind_line_end xs ≡ []
-no_end [] h = refl
-no_end (x ∷ []) h = ⊎_elim (λ e. cond-true (eqb x 13 && false) [] [] e) (λ e. cond-false (eqb x 13 && false) [] [] e) (cases_Bool (eqb x 13 && false))
-no_end (x ∷ y ∷ ys) h =
-    let t = is_line_end (x ∷ y ∷ []) in
-    let n = first_end (y ∷ ys) in
-    let same : t ≡ (eqb x 13 && eqb y 10) = ap (λ u. eqb x 13 && u) (and_true (eqb y 10)) in
-    ⊎_elim
-    (λ e. let i = cond-false (not t) (1 + n) 0 (ap not e) in absurd (omega (arith, i)))
-    (λ e. let i = cond-true (not t) (1 + n) 0 (ap not e) in cond-false (eqb x 13 && eqb y 10) ys (behind_line_end (y ∷ ys)) (sym same ∙ e) ∙ no_end (y ∷ ys) (omega (arith, i)))
-    (cases_Bool t)
-
--- what `position` answers
-pub place_is : (p l i : ℕ) (r : Option ℕ) → r ≡ cond (ltb p l) (Some p) None → r ≡ Some i → (i ≡ p) × (p < l)
-place_is p l i r e f =
-    ⊎_elim
-    (λ h. let g = cond-true (ltb p l) (Some p) None (lt-ltb p l h) in (let z : i ≡ p = cc in z, h))
-    (λ h. let g = cond-false (ltb p l) (Some p) None (le-ltb p l h) in absurd cc)
-    (cases_lt p l)
-
-pub no_place : (p l : ℕ) (r : Option ℕ) → r ≡ cond (ltb p l) (Some p) None → r ≡ None → l ≤ p
-no_place p l r e f =
-    ⊎_elim
-    (λ h. let g = cond-true (ltb p l) (Some p) None (lt-ltb p l h) in absurd cc)
-    (λ h. h)
-    (cases_lt p l)
 
 -- What is behind the first line end is a part of the text, from some place to its end.
 

@@ -93,11 +93,19 @@ fn plain_run(text: &[u8]) -> Result<usize, RunFault>
     ensures value { result ≡ plain_extent text.now }
     ensures within { size result ≤ length text.now }
 {
-    let n = text.iter().take_while(|b| is_plain(**b)).count();
-    if stops_before(&text[n..]) {
-        Ok(n)
-    } else {
-        Err(RunFault::Offends(n))
+    let mut rest = text;
+    loop {
+        let n = text.len() - rest.len();
+        rest = match rest {
+            [b, tail @ ..] if is_plain(*b) => tail,
+            _ => {
+                return if stops_before(rest) {
+                    Ok(n)
+                } else {
+                    Err(RunFault::Offends(n))
+                };
+            }
+        };
     }
 }
 

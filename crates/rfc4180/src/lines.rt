@@ -47,13 +47,13 @@ pub fn next_line(text: &[u8], from: usize) -> usize
     ensures value { result ≡ length text.now - length (behind_line_end (drop from text.now)) }
     ensures first { Resumes (drop from text.now) (drop result text.now) }
 {
-    let start = from.min(text.len());
-    let line_end = text[start..]
-        .windows(2)
-        .position(|pair| pair == b"\r\n".as_slice());
-    match line_end {
-        Some(i) => start + i + 2,
-        None => text.len(),
+    let mut rest = &text[from.min(text.len())..];
+    loop {
+        rest = match rest {
+            [b'\r', b'\n', tail @ ..] => return text.len() - tail.len(),
+            [_, tail @ ..] => tail,
+            [] => return text.len(),
+        };
     }
 }
 
