@@ -6,7 +6,7 @@ use thiserror::Error;
 // A width of 0, or above `PLACES`.
 #[derive(Debug, Clone, Copy, PartialEq, Eq, Error)]
 pub enum WidthFault {
-    #[error("there are one to six attributes")]
+    #[error("a line has 1 to 6 attributes")]
     OutOfRange,
 }
 

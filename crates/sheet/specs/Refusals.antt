@@ -1,10 +1,15 @@
 -- The number under which each refusal is known. Assumes nothing.
 use Rattle.std.specs.Prelude.{ℕ}
 use Rattle.rfc4180.specs.Faults.{text_diagnostic}
+use Rattle.sheet.specs.declared.faults.BeginFault.{BeginFault}
+use Rattle.sheet.specs.declared.faults.BeginFault.TheVariants.{Width}
 use Rattle.sheet.specs.declared.faults.HeaderFault.{HeaderFault}
 use Rattle.sheet.specs.declared.faults.HeaderFault.TheVariants.{Text, Fields, AreaTooShort}
 use Rattle.sheet.specs.declared.faults.RowFault.{RowFault}
 use Rattle.sheet.specs.declared.faults.RowFault.TheVariants as row
+
+abbrev pub begin_number : BeginFault → ℕ
+begin_number Width = 1
 
 -- 9 and 11 are those of the text
 abbrev pub header_number : HeaderFault → ℕ

@@ -1,10 +1,27 @@
-// Why a header or a row is turned away.
+// Why a sheet, a header or a row is turned away.
 ghost use Rattle.std.specs.Prelude.{◌≡◌};
 ghost use Rattle.sheet.specs.declared.faults.HeaderFault.TheVariants.{Text};
-ghost use Rattle.sheet.specs.Refusals.{header_number, row_number};
+ghost use Rattle.sheet.specs.Refusals.{begin_number, header_number, row_number};
 
 use rfc4180::TextFault;
 use thiserror::Error;
+
+// A sheet is 1 to 6 attributes wide.
+#[derive(Clone, Copy, Debug, PartialEq, Eq, Error)]
+pub enum BeginFault {
+    #[error("a sheet has one to six attributes")]
+    Width,
+}
+
+impl BeginFault {
+    pub fn number(self) -> u32
+        ensures { result ≡ begin_number self }
+    {
+        match self {
+            BeginFault::Width => 1,
+        }
+    }
+}
 
 // The header's text is faulty, its line has another number of fields than wanted, or the area has no room for it.
 #[derive(Clone, Copy, Debug, PartialEq, Eq, Error)]

@@ -7,20 +7,21 @@ ghost use Rattle.sheet.specs.Rows.{bytes_of, row_bytes};
 ghost use Rattle.sheet.specs.Sheets.{Headed, RowBack, GoesOn, GivesBack};
 ghost use Rattle.sheet.specs.Told.{told_header};
 
-use crate::faults::{HeaderFault, RowFault};
+use crate::faults::{BeginFault, HeaderFault, RowFault};
 use crate::headers::write_header;
 use crate::rows::write_row;
-use domain::{Width, WidthFault};
+use domain::Width;
 use release::Line;
+use std::fmt;
 
 // A sheet that waits for its header.
-#[derive(Debug, Drop)]
+#[derive(Drop)]
 pub struct BareSheet {
     width: Width,
 }
 
 // A sheet that takes rows.
-#[derive(Debug, Drop)]
+#[derive(Drop)]
 pub struct HeadedSheet {
     width: Width,
     rows: u32,
@@ -32,6 +33,24 @@ pub struct EndedSheet {
     total: u32,
 }
 
+// By hand, here and for the headed sheet, since a width is shown as its number.
+impl fmt::Debug for BareSheet {
+    fn fmt<W: fmt::Write>(&self, f: &mut fmt::Formatter<W>) -> fmt::Result {
+        f.debug_struct("BareSheet")
+            .field("width", &self.width.count())
+            .finish()
+    }
+}
+
+impl fmt::Debug for HeadedSheet {
+    fn fmt<W: fmt::Write>(&self, f: &mut fmt::Formatter<W>) -> fmt::Result {
+        f.debug_struct("HeadedSheet")
+            .field("width", &self.width.count())
+            .field("rows", &self.rows)
+            .finish()
+    }
+}
+
 // A header that was turned away, and the sheet, which is still bare.
 #[derive(Debug, Drop)]
 pub struct HeaderRefused {
@@ -41,10 +60,11 @@ pub struct HeaderRefused {
 
 impl BareSheet {
     // A sheet of `width` attributes.
-    pub fn begin(width: usize) -> Result<BareSheet, WidthFault>
+    pub fn begin(width: usize) -> Result<BareSheet, BeginFault>
         ensures { MatchResult result (λ sheet. sheet.width.count ≡ width) (λ _. (width ≡ 0) ⊎ (max_width < width)) }
     {
-        Width::new(width).map(|width| BareSheet { width })
+        let width = Width::new(width).map_err(|_| BeginFault::Width)?;
+        Ok(BareSheet { width })
     }
 
     // Writes the header, one line of a field for each attribute and one for the reading, to the area's start.
