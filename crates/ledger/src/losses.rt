@@ -1,4 +1,4 @@
-ghost use Rattle.std.specs.Prelude.{◌≡◌, ◌<◌, ◌≤◌, [], ◌∷◌, length, take, IfOk};
+ghost use Rattle.std.specs.Prelude.{◌≡◌, ◌*◌, ◌<◌, ◌≤◌, [], ◌∷◌, length, sum, take, IfOk};
 ghost use Rattle.std.specs.VecDeque.{deque_capacity};
 ghost use Rattle.rules.specs.States.{below_mean};
 ghost use Rattle.ledger.specs.Means.{MeanOf};
@@ -16,6 +16,15 @@ pub(crate) struct Losses {
     ghost short: { length latest.items ≤ window },
     // One more than stays, so that a loss enters before the oldest leaves.
     ghost room: { window < deque_capacity latest },
+}
+
+// The sum of a slice of them, since a queue's iterator asks at each loss which of its two slices is next: slower.
+fn sum_of(losses: &[u32]) -> u64
+    requires { length losses.now < 4294967296 }
+    ensures value { result ≡ sum losses.now }
+    ensures bound { result ≤ 4294967295 * length losses.now }
+{
+    losses.iter().map(|loss| u64::from(*loss)).sum()
 }
 
 impl Losses {
@@ -43,8 +52,9 @@ impl Losses {
     pub(crate) fn mean(&self) -> Mean
         ensures { MeanOf self.now.latest.items result }
     {
+        let (front, back) = self.latest.as_slices();
         Mean {
-            sum: self.latest.iter().map(|loss| u64::from(*loss)).sum(),
+            sum: sum_of(front) + sum_of(back),
             // No more than `window`, so the cast loses nothing.
             count: (self.latest.len() as u32).max(1),
         }
