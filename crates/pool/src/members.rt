@@ -33,8 +33,9 @@ pub(crate) fn names_fewer(held: &[Held], k: usize) -> bool
 pub(crate) fn has_owner(held: &[Held], label: u32, owner: u32) -> bool
     ensures { result ≡ listed owner (rules.owners (rules.members label held.now)) }
 {
+    // The owner first, which is the rarer.
     held.iter()
-        .any(|h| h.label == label && h.entry.fed.owner == owner)
+        .any(|h| h.entry.fed.owner == owner && h.label == label)
 }
 
 // How many owners the cluster's records have.
